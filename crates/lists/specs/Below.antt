@@ -1,0 +1,25 @@
+-- Laws of a test and of a sum over the numbers below n, as a loop that counts up by one asks them.
+-- Each is the definition at one number more.
+use mathlib.Core.Path.{_≡_, refl}
+use mathlib.Core.Bool.{Bool, true, false, _&&_, and-false}
+use Prim.Native.Nat.{ℕ, zero, suc, _+_, _<_}
+use native.Mathlib.Numerals.{add-one}
+use native.Mathlib.Nat.{not-suc-le-zero}
+use native.Mathlib.Decide.{ℕ-discrete}
+use native.Mathlib.Omega.{arith}
+use Rattle.lists.specs.Choice.{allBelow, sumBelow}
+
+pub all-more : (p : ℕ → Bool) (i : ℕ) → allBelow p (i + 1) ≡ (allBelow p i && p i)
+all-more p i = rw add-one
+
+pub sum-more : (f : ℕ → ℕ) (i : ℕ) → sumBelow f (i + 1) ≡ sumBelow f i + f i
+sum-more f i = rw add-one
+
+-- one test that fails below n
+pub all-fails : (p : ℕ → Bool) (n i : ℕ) → i < n → p i ≡ false → allBelow p n ≡ false
+all-fails p zero i h e = absurd (not-suc-le-zero h)
+all-fails p (suc n) i h e = go (ℕ-discrete i n) (all-fails p n i)
+  where
+    go : Dec (i ≡ n) → (i < n → p i ≡ false → allBelow p n ≡ false) → (allBelow p n && p n) ≡ false
+    go (yes q) ih = rw (← q, e) (and-false (allBelow p i))
+    go (no q) ih = rw (ih (omega arith) e)

@@ -1,0 +1,4 @@
+pub mod Bytes
+pub mod Ascii
+pub mod Choice
+pub mod Below
