@@ -1,0 +1,2 @@
+// What document 01 and Intel's manual say of registers, mnemonics and conditions, by number.
+pub mod registers;
