@@ -2,10 +2,10 @@
 ghost use mathlib.Core.Path.{_≡_};
 ghost use Rattle.x86.specs.Registers.{classSize, registerExists};
 
-const CLASS_SIZES: [u8; 10] = [0, 16, 4, 16, 16, 16, 2, 6, 16, 16];
+const CLASS_SIZES: [u16; 10] = [0, 16, 4, 16, 16, 16, 2, 6, 16, 16];
 
 // How many registers a class has.
-fn class_size(class: u8) -> u8
+fn class_size(class: u16) -> u16
     ensures { λ r. ⌜ r ≡ classSize class ⌝ }
 {
     if class < 10 {
@@ -15,7 +15,7 @@ fn class_size(class: u8) -> u8
     }
 }
 
-pub fn register_exists(r: u8) -> bool
+pub fn register_exists(r: u16) -> bool
     ensures { λ b. ⌜ b ≡ registerExists r ⌝ }
 {
     (r == 0) | (r % 16 < class_size(r / 16))
