@@ -8,6 +8,9 @@ use Rattle.x86.proofs.registers.class_size.Reads as reads
 use Rattle.x86.proofs.registers.class_size.Lts as lts
 
 -- src/registers.rt:12:9
+mul-result : tie.Need-mul-result
+mul-result c = search needs
+
 array-read-result : tie.Need-array-read-result
 array-read-result c = search needs
 
@@ -20,4 +23,4 @@ returns-2 : tie.Need-returns-2
 returns-2 c = sym (List·getD-eq-default classSizes 0 (c .if1 .left))
 
 pub class-size-spec : {M : Type 1} → statement M
-class-size-spec = tie.close (tie.spec array-read-result returns returns-2)
+class-size-spec = tie.close (tie.spec mul-result array-read-result returns returns-2)
