@@ -2,3 +2,4 @@ pub mod Bytes
 pub mod Ascii
 pub mod Choice
 pub mod Below
+pub mod Signed
