@@ -23,3 +23,7 @@ all-fails p (suc n) i h e = go (ℕ-discrete i n) (all-fails p n i)
     go : Dec (i ≡ n) → (i < n → p i ≡ false → allBelow p n ≡ false) → (allBelow p n && p n) ≡ false
     go (yes q) ih = rw (← q, e) (and-false (allBelow p i))
     go (no q) ih = rw (ih (omega arith) e)
+
+-- one more test that passes
+pub all-goes-on : (p : ℕ → Bool) (i : ℕ) → allBelow p i ≡ true → p i ≡ true → allBelow p (i + 1) ≡ true
+all-goes-on p i h e = simp (all-more, h, e)

@@ -3,3 +3,4 @@ pub mod Ascii
 pub mod Choice
 pub mod Below
 pub mod Signed
+pub mod SignedLaws

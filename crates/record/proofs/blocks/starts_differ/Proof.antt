@@ -1,0 +1,69 @@
+-- Question 6: `starts_differ` meets its contract.
+-- The invariant: every start so far is new.
+use mathlib.Core.Path.{_≡_, sym, _∙_}
+use mathlib.Core.Bool.{true}
+use Prim.Native.Nat.{_≤_, _-_}
+use native.Mathlib.Omega.{arith}
+use borrow.Author.Needs.{needs}
+use borrow.Author.Tests.{not-true, not-false}
+use Rattle.lists.specs.Choice.{allBelow}
+use Rattle.lists.specs.Below.{all-goes-on, all-fails}
+use Rattle.record.specs.Blocks.{startIsNew, startsDiffer}
+use Rattle.record.proofs.blocks.starts_differ.Statement.{statement}
+use Rattle.record.proofs.blocks.starts_differ.Tie as tie
+use Rattle.record.proofs.blocks.starts_differ.Reads as reads
+use Rattle.record.proofs.blocks.starts_differ.Lts as lts
+use Rattle.record.proofs.blocks.start_is_new.Reads as start-is-new-reads
+
+abbrev Inv-loop : tie.InvT-loop
+Inv-loop starts blocks k₀ k = (k ≤ blocks) × (allBelow (startIsNew starts) k ≡ true)
+
+abbrev μ-loop : tie.MeasureT-loop
+μ-loop starts blocks k₀ k = blocks - k
+
+loop-holds : tie.Need-loop-holds Inv-loop μ-loop
+loop-holds c = search needs
+
+start-is-new-requires : tie.Need-start-is-new-requires Inv-loop μ-loop
+start-is-new-requires c κs = search needs
+
+returns : tie.Need-returns Inv-loop μ-loop
+unfolding startsDiffer
+returns c =
+    let l = c .before .before .before in
+    let a = l .before .before .args in
+    let n = c .before .start-is-new in
+    sym (all-fails (startIsNew (a .starts .now)) (a .blocks) (l .loop .k) (search needs) (sym (n .ensures) ∙ not-true (n .result) (c .if1 .taken)))
+
+add-k : tie.Need-add-k Inv-loop μ-loop
+add-k c = search needs
+
+loop-less : tie.Need-loop-less Inv-loop μ-loop
+loop-less c = search needs
+
+loop-again : tie.Need-loop-again Inv-loop μ-loop
+loop-again c =
+    let l = c .before .before .before in
+    let n = c .before .start-is-new in
+    (search needs, all-goes-on (startIsNew (l .before .before .args .starts .now)) (l .loop .k) (l .loop .inv .1) (sym (n .ensures) ∙ not-false (n .result) (c .if1 .left)))
+
+returns-2 : tie.Need-returns-2 Inv-loop μ-loop
+unfolding startsDiffer
+returns-2 c =
+    let l = c .before in
+    let e : l .loop .k ≡ l .before .before .args .blocks = omega arith in
+    sym (rw e at (l .loop .inv .1))
+
+pub starts-differ-spec : {M : Type 1} → statement M
+starts-differ-spec =
+    tie.close
+    (tie.spec
+    Inv-loop
+    μ-loop
+    loop-holds
+    start-is-new-requires
+    returns
+    add-k
+    loop-less
+    loop-again
+    returns-2)

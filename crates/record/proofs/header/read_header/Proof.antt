@@ -1,0 +1,111 @@
+use mathlib.Core.Path.{_≡_, _∙_}
+use mir.Syntax.{w32}
+use mir.Val.{toZ, ofZ, SFits}
+use mir.ValLaws.{toZ-ofZ}
+use Rattle.lists.specs.Signed.{i32Of}
+use Rattle.lists.specs.SignedLaws.{i32-fits}
+use Rattle.record.specs.Header.{headerOf}
+use borrow.Author.Needs.{needs}
+use Rattle.record.proofs.header.read_header.Statement.{statement}
+use Rattle.record.proofs.header.read_header.Tie as tie
+use Rattle.record.proofs.header.read_header.Reads as reads
+use Rattle.record.proofs.header.read_header.Lts as lts
+use Rattle.lists.proofs.reads.u16_at.Reads as u16-at-reads
+use Rattle.lists.proofs.reads.u32_at.Reads as u32-at-reads
+use Rattle.lists.proofs.reads.u8_at.Reads as u8-at-reads
+use Rattle.lists.proofs.signed.signed32.Reads as signed32-reads
+
+-- src/header.rt:29:15
+u16-at-requires : tie.Need-u16-at-requires
+u16-at-requires c κs = search needs
+
+-- src/header.rt:30:21
+u16-at-requires-2 : tie.Need-u16-at-requires-2
+u16-at-requires-2 c κs = search needs
+
+-- src/header.rt:31:17
+u16-at-requires-3 : tie.Need-u16-at-requires-3
+u16-at-requires-3 c κs = search needs
+
+-- src/header.rt:32:23
+u16-at-requires-4 : tie.Need-u16-at-requires-4
+u16-at-requires-4 c κs = search needs
+
+-- src/header.rt:33:16
+u16-at-requires-5 : tie.Need-u16-at-requires-5
+u16-at-requires-5 c κs = search needs
+
+-- src/header.rt:34:16
+u16-at-requires-6 : tie.Need-u16-at-requires-6
+u16-at-requires-6 c κs = search needs
+
+-- src/header.rt:35:16
+u16-at-requires-7 : tie.Need-u16-at-requires-7
+u16-at-requires-7 c κs = search needs
+
+-- src/header.rt:36:16
+u16-at-requires-8 : tie.Need-u16-at-requires-8
+u16-at-requires-8 c κs = search needs
+
+-- src/header.rt:37:25
+u32-at-requires : tie.Need-u32-at-requires
+u32-at-requires c κs = search needs
+
+-- src/header.rt:37:16
+signed32-requires : tie.Need-signed32-requires
+signed32-requires c κs = search needs
+
+-- src/header.rt:38:18
+u8-at-requires : tie.Need-u8-at-requires
+u8-at-requires c κs = search needs
+
+-- src/header.rt:39:17
+u8-at-requires-2 : tie.Need-u8-at-requires-2
+u8-at-requires-2 c κs = search needs
+
+-- src/header.rt:40:15
+u16-at-requires-9 : tie.Need-u16-at-requires-9
+u16-at-requires-9 c κs = search needs
+
+-- src/header.rt:25:1
+returns : tie.Need-returns
+unfolding headerOf
+returns c =
+    let z = c .before .before .before .signed32 in
+    let u = c .before .before .before .before .u32-at in
+    let f : SFits w32 (z .result) = rw (z .ensures) (i32-fits (u .result) (u .ensures .1)) in
+    let e : toZ w32 (ofZ w32 (z .result)) ≡ i32Of (u .result) = toZ-ofZ w32 (z .result) f ∙ z .ensures in
+    simp (
+      c .u16-at9 .ensures .0,
+      c .before .u8-at2 .ensures .0,
+      c .before .before .u8-at .ensures .0,
+      e,
+      c .before .before .before .before .u32-at .ensures .0,
+      c .before .before .before .before .before .u16-at8 .ensures .0,
+      c .before .before .before .before .before .before .u16-at7 .ensures .0,
+      c .before .before .before .before .before .before .before .u16-at6 .ensures .0,
+      c .before .before .before .before .before .before .before .before .u16-at5 .ensures .0,
+      c .before .before .before .before .before .before .before .before .before .u16-at4 .ensures .0,
+      c .before .before .before .before .before .before .before .before .before .before .u16-at3 .ensures .0,
+      c .before .before .before .before .before .before .before .before .before .before .before .u16-at2 .ensures .0,
+      c .before .before .before .before .before .before .before .before .before .before .before .before .u16-at .ensures .0,
+    )
+
+pub read-header-spec : {M : Type 1} → statement M
+read-header-spec =
+    tie.close
+    (tie.spec
+    u16-at-requires
+    u16-at-requires-2
+    u16-at-requires-3
+    u16-at-requires-4
+    u16-at-requires-5
+    u16-at-requires-6
+    u16-at-requires-7
+    u16-at-requires-8
+    u32-at-requires
+    signed32-requires
+    u8-at-requires
+    u8-at-requires-2
+    u16-at-requires-9
+    returns)

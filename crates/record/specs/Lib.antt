@@ -1,0 +1,5 @@
+pub mod Header
+pub mod Layout
+pub mod Blocks
+pub mod Body
+pub mod Atlas

@@ -1,0 +1,107 @@
+// Blocks and edges: readers over the part of the record that begins at their array, and questions 5 to 7.
+// An address and a place in the listing order are different types, so that they cannot be compared.
+use lists::reads::u8_at;
+use lists::reads::u16_at;
+use lists::reads::u64_at;
+ghost use mathlib.Core.Path.{_≡_};
+ghost use Prim.Native.Nat.{_*_, _<_};
+ghost use Rattle.record.specs.Blocks.{startAt, instructionsIn, edgesIn, labelMark, targetAt, edgeKindAt, marksOk, startIsNew, startsDiffer, edgeKindsOk};
+
+pub struct Address(pub u64);
+
+pub struct Place(pub u16);
+
+pub fn start_at(starts: &[u8], k: Place) -> Address
+    ensures { λ r. ⌜ r .0 ≡ startAt (now (starts .entry)) (k .0) ⌝ }
+{
+    Address(u64_at(starts, 8 * k.0 as usize))
+}
+
+pub fn instructions_in(marks: &[u8], k: Place) -> u16
+    ensures { λ r. ⌜ (r ≡ instructionsIn (now (marks .entry)) (k .0)) × (r < 65536) ⌝ }
+{
+    u16_at(marks, 4 * k.0 as usize)
+}
+
+pub fn edges_in(marks: &[u8], k: Place) -> u8
+    ensures { λ r. ⌜ (r ≡ edgesIn (now (marks .entry)) (k .0)) × (r < 256) ⌝ }
+{
+    u8_at(marks, 4 * k.0 as usize + 2)
+}
+
+pub fn label_mark(marks: &[u8], k: Place) -> u8
+    ensures { λ r. ⌜ r ≡ labelMark (now (marks .entry)) (k .0) ⌝ }
+{
+    u8_at(marks, 4 * k.0 as usize + 3)
+}
+
+pub fn target_at(targets: &[u8], e: u16) -> Address
+    ensures { λ r. ⌜ r .0 ≡ targetAt (now (targets .entry)) e ⌝ }
+{
+    Address(u64_at(targets, 8 * e as usize))
+}
+
+pub fn edge_kind_at(kinds: &[u8], e: u16) -> u8
+    ensures { λ r. ⌜ r ≡ edgeKindAt (now (kinds .entry)) e ⌝ }
+{
+    u8_at(kinds, e as usize)
+}
+
+// Question 5.
+pub fn marks_ok(marks: &[u8], blocks: u16, instructions: u16, edges: u16) -> bool
+    ensures { λ r. ⌜ r ≡ marksOk (now (marks .entry)) blocks instructions edges ⌝ }
+{
+    let mut total: u64 = 0;
+    let mut sum: u64 = 0;
+    let mut ok = true;
+    let mut k: u16 = 0;
+    while k < blocks {
+        total += instructions_in(marks, Place(k)) as u64;
+        sum += edges_in(marks, Place(k)) as u64;
+        ok = ok & (label_mark(marks, Place(k)) <= 1);
+        k += 1;
+    }
+    (total == instructions as u64) & (sum == edges as u64) & ok
+}
+
+// Whether block k's start differs from that of every block before it.
+fn start_is_new(starts: &[u8], k: u16) -> bool
+    ensures { λ r. ⌜ r ≡ startIsNew (now (starts .entry)) k ⌝ }
+{
+    let x = start_at(starts, Place(k)).0;
+    let mut j: u16 = 0;
+    while j < k {
+        if start_at(starts, Place(j)).0 == x {
+            return false;
+        }
+        j += 1;
+    }
+    true
+}
+
+// Question 6.
+pub fn starts_differ(starts: &[u8], blocks: u16) -> bool
+    ensures { λ r. ⌜ r ≡ startsDiffer (now (starts .entry)) blocks ⌝ }
+{
+    let mut k: u16 = 0;
+    while k < blocks {
+        if !start_is_new(starts, k) {
+            return false;
+        }
+        k += 1;
+    }
+    true
+}
+
+// Question 7.
+pub fn edge_kinds_ok(kinds: &[u8], edges: u16) -> bool
+    ensures { λ r. ⌜ r ≡ edgeKindsOk (now (kinds .entry)) edges ⌝ }
+{
+    let mut ok = true;
+    let mut e: u16 = 0;
+    while e < edges {
+        ok = ok & (edge_kind_at(kinds, e) <= 4);
+        e += 1;
+    }
+    ok
+}

@@ -1,0 +1,207 @@
+// An instruction's body: readers over the part of the record that begins at it, and question 8.
+use lists::reads::from;
+use lists::reads::u8_at;
+use lists::reads::u16_at;
+use lists::reads::u64_at;
+use x86::registers::register_exists;
+ghost use mathlib.Core.Path.{_≡_};
+ghost use Prim.Native.Nat.{_-_, _*_, _<_};
+ghost use lib.ListN.{length};
+ghost use Rattle.record.specs.Body.{addressAt, bodyAt, mnemonicOf, conditionOf, operandCount, skipMark, segmentOf, baseOf, indexOf, scaleOf, memorySize, memoryAddress, operandKind, registerByte, operandRegister, operandNumber, nameByte, nameGoesOn, conditionOk, scaleOk, operandOk, fixedOk, isName, isZeros, operandsOk, bodyOk, bodiesOk};
+
+pub fn address_at(addresses: &[u8], i: u16) -> u64
+    ensures { λ r. ⌜ r ≡ addressAt (now (addresses .entry)) i ⌝ }
+{
+    u64_at(addresses, 8 * i as usize)
+}
+
+pub fn body_at(bodies: &[u8], i: u16) -> &[u8]
+    ensures { λ r. ⌜ now r ≡ bodyAt (now (bodies .entry)) i ⌝ }
+{
+    from(bodies, 92 * i as usize)
+}
+
+pub fn mnemonic(body: &[u8]) -> u8
+    ensures { λ r. ⌜ r ≡ mnemonicOf (now (body .entry)) ⌝ }
+{
+    u8_at(body, 0)
+}
+
+pub fn condition_code(body: &[u8]) -> u8
+    ensures { λ r. ⌜ r ≡ conditionOf (now (body .entry)) ⌝ }
+{
+    u8_at(body, 1)
+}
+
+pub fn op_count(body: &[u8]) -> u8
+    ensures { λ r. ⌜ r ≡ operandCount (now (body .entry)) ⌝ }
+{
+    u8_at(body, 2)
+}
+
+pub fn skip_mark(body: &[u8]) -> u8
+    ensures { λ r. ⌜ r ≡ skipMark (now (body .entry)) ⌝ }
+{
+    u8_at(body, 3)
+}
+
+pub fn memory_segment(body: &[u8]) -> u8
+    ensures { λ r. ⌜ r ≡ segmentOf (now (body .entry)) ⌝ }
+{
+    u8_at(body, 4)
+}
+
+pub fn memory_base(body: &[u8]) -> u8
+    ensures { λ r. ⌜ r ≡ baseOf (now (body .entry)) ⌝ }
+{
+    u8_at(body, 5)
+}
+
+pub fn memory_index(body: &[u8]) -> u8
+    ensures { λ r. ⌜ r ≡ indexOf (now (body .entry)) ⌝ }
+{
+    u8_at(body, 6)
+}
+
+pub fn memory_index_scale(body: &[u8]) -> u8
+    ensures { λ r. ⌜ r ≡ scaleOf (now (body .entry)) ⌝ }
+{
+    u8_at(body, 7)
+}
+
+pub fn memory_size(body: &[u8]) -> u16
+    ensures { λ r. ⌜ r ≡ memorySize (now (body .entry)) ⌝ }
+{
+    u16_at(body, 8)
+}
+
+pub fn memory_address(body: &[u8]) -> u64
+    ensures { λ r. ⌜ r ≡ memoryAddress (now (body .entry)) ⌝ }
+{
+    u64_at(body, 10)
+}
+
+pub fn op_kind(body: &[u8], i: u8) -> u8
+    ensures { λ r. ⌜ r ≡ operandKind (now (body .entry)) i ⌝ }
+{
+    u8_at(body, 18 + 10 * i as usize)
+}
+
+fn register_byte(body: &[u8], i: u8) -> u8
+    ensures { λ r. ⌜ (r ≡ registerByte (now (body .entry)) i) × (r < 256) ⌝ }
+{
+    u8_at(body, 18 + 10 * i as usize + 1)
+}
+
+pub fn op_register(body: &[u8], i: u8) -> u8
+    ensures { λ r. ⌜ r ≡ operandRegister (now (body .entry)) i ⌝ }
+{
+    if op_kind(body, i) == 0 {
+        return register_byte(body, i);
+    }
+    0
+}
+
+pub fn op_number(body: &[u8], i: u8) -> u64
+    ensures { λ r. ⌜ r ≡ operandNumber (now (body .entry)) i ⌝ }
+{
+    u64_at(body, 18 + 10 * i as usize + 2)
+}
+
+fn condition_ok(m: u8, c: u8) -> bool
+    ensures { λ r. ⌜ r ≡ conditionOk m c ⌝ }
+{
+    (m <= 45) & (c <= 16) & ((m == 0) | (((m == 26) | (m == 27)) == (c != 0)))
+}
+
+fn scale_ok(k: u8) -> bool
+    ensures { λ r. ⌜ r ≡ scaleOk k ⌝ }
+{
+    (k == 1) | (k == 2) | (k == 4) | (k == 8)
+}
+
+fn fixed_ok(body: &[u8]) -> bool
+    ensures { λ r. ⌜ r ≡ fixedOk (now (body .entry)) ⌝ }
+{
+    condition_ok(mnemonic(body), condition_code(body))
+        & (op_count(body) <= 5)
+        & (skip_mark(body) <= 1)
+        & register_exists(memory_segment(body) as u16)
+        & register_exists(memory_base(body) as u16)
+        & register_exists(memory_index(body) as u16)
+        & scale_ok(memory_index_scale(body))
+}
+
+fn operand_ok(body: &[u8], i: u8) -> bool
+    ensures { λ r. ⌜ r ≡ operandOk (now (body .entry)) i ⌝ }
+{
+    (op_kind(body, i) <= 11) & register_exists(register_byte(body, i) as u16)
+}
+
+fn name_byte(c: u8) -> bool
+    ensures { λ r. ⌜ r ≡ nameByte c ⌝ }
+{
+    ((97 <= c) & (c <= 122)) | ((48 <= c) & (c <= 57)) | (c == 95)
+}
+
+// A name: a letter, digit or `_`, then more of them, then zeros.
+fn is_name(name: &[u8]) -> bool
+    ensures { λ r. ⌜ r ≡ isName (now (name .entry)) ⌝ }
+{
+    let mut ok = true;
+    let mut k: usize = 0;
+    while k < 23 {
+        let c = u8_at(name, k + 1);
+        ok = ok & ((c == 0) | (name_byte(c) & (u8_at(name, k) != 0)));
+        k += 1;
+    }
+    name_byte(u8_at(name, 0)) & ok
+}
+
+fn is_zeros(name: &[u8]) -> bool
+    ensures { λ r. ⌜ r ≡ isZeros (now (name .entry)) ⌝ }
+{
+    let mut ok = true;
+    let mut k: usize = 0;
+    while k < 24 {
+        ok = ok & (u8_at(name, k) == 0);
+        k += 1;
+    }
+    ok
+}
+
+fn operands_ok(body: &[u8]) -> bool
+    ensures { λ r. ⌜ r ≡ operandsOk (now (body .entry)) ⌝ }
+{
+    let mut ok = true;
+    let mut i: u8 = 0;
+    while i < 5 {
+        ok = ok & operand_ok(body, i);
+        i += 1;
+    }
+    ok
+}
+
+fn body_ok(body: &[u8]) -> bool
+    ensures { λ r. ⌜ r ≡ bodyOk (now (body .entry)) ⌝ }
+{
+    let fixed = fixed_ok(body) & operands_ok(body);
+    let name = from(body, 68);
+    if mnemonic(body) == 0 {
+        return fixed & is_name(name);
+    }
+    fixed & is_zeros(name)
+}
+
+// Question 8, of the instructions.
+pub fn bodies_ok(bodies: &[u8], instructions: u16) -> bool
+    ensures { λ r. ⌜ r ≡ bodiesOk (now (bodies .entry)) instructions ⌝ }
+{
+    let mut ok = true;
+    let mut i: u16 = 0;
+    while i < instructions {
+        ok = ok & body_ok(body_at(bodies, i));
+        i += 1;
+    }
+    ok
+}

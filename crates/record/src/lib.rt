@@ -1,0 +1,5 @@
+// The record: its header, its arrays, and the questions that a call asks of it before it lists anything.
+pub mod blocks;
+pub mod body;
+pub mod header;
+pub mod layout;
