@@ -3,3 +3,5 @@ pub mod Layout
 pub mod Blocks
 pub mod Body
 pub mod Atlas
+pub mod Asked
+pub mod Running

@@ -1,0 +1,35 @@
+-- `record_first_no` meets its contract.
+-- The answer's number is that of its case.
+use mathlib.Core.Path.{_≡_, sym, ap, _∙_}
+use borrow.Author.Needs.{needs}
+use Rattle.record.specs.Asked.{numberOf}
+use Rattle.record.proofs.Stages.{number-is}
+use borrow.Author.Needs.{needs}
+use Rattle.record.proofs.asked.record_first_no.Statement.{statement}
+use Rattle.record.proofs.asked.record_first_no.Tie as tie
+use Rattle.record.proofs.asked.record_first_no.Reads as reads
+use Rattle.record.proofs.asked.record_first_no.Lts as lts
+use Rattle.record.proofs.asked.record.Reads as record-reads
+
+record-requires : tie.Need-record-requires
+record-requires c κs = search needs
+
+enum-told : tie.Need-enum-told
+enum-told c = search needs
+
+enum-known-n : tie.Need-enum-known-n
+enum-known-n c = search needs
+
+returns : tie.Need-returns
+returns c =
+    let e = sym (c .enum-told .given .1) ∙ c .before .before .«record» .ensures in
+    ap numberOf e ∙ number-is _ _
+
+returns-2 : tie.Need-returns-2
+returns-2 c =
+    let e = sym (c .before .n .given .1) ∙ c .before .before .before .«record» .ensures in
+    ap numberOf e ∙ number-is _ _
+
+pub record-first-no-spec : {M : Type 1} → statement M
+record-first-no-spec =
+    tie.close (tie.spec record-requires enum-told enum-known-n returns returns-2)

@@ -1,0 +1,29 @@
+-- Question 10 of a record: `spans_asked` meets its contract.
+-- The array is the part that begins at its offset.
+use mathlib.Core.Path.{_≡_, sym}
+use borrow.Author.Needs.{needs}
+use Rattle.record.specs.Asked.{spansAsked}
+use borrow.Author.Needs.{needs}
+use Rattle.record.proofs.asked.spans_asked.Statement.{statement}
+use Rattle.record.proofs.asked.spans_asked.Tie as tie
+use Rattle.record.proofs.asked.spans_asked.Reads as reads
+use Rattle.record.proofs.asked.spans_asked.Lts as lts
+use Rattle.lists.proofs.reads.from.Reads as from-reads
+use Rattle.record.proofs.atlas.spans_ok.Reads as spans-ok-reads
+use Rattle.record.proofs.layout.spans_at.Reads as spans-at-reads
+
+spans-at-requires : tie.Need-spans-at-requires
+spans-at-requires c κs = search needs
+
+from-requires : tie.Need-from-requires
+from-requires c κs = search needs
+
+spans-ok-requires : tie.Need-spans-ok-requires
+spans-ok-requires c κs = search needs
+
+returns : tie.Need-returns
+unfolding spansAsked
+returns c = simp (c .spans-ok .ensures, c .before .from .ensures .0, c .before .before .spans-at .ensures .0)
+
+pub spans-asked-spec : {M : Type 1} → statement M
+spans-asked-spec = tie.close (tie.spec spans-at-requires from-requires spans-ok-requires returns)

@@ -1,0 +1,171 @@
+// The questions 1 to 11, by stages: each stage answers the number of its first question that gets a no, or 0.
+use crate::atlas::atlas_ok;
+use crate::atlas::spans_ok;
+use crate::blocks::edge_kinds_ok;
+use crate::blocks::marks_ok;
+use crate::blocks::starts_differ;
+use crate::body::bodies_ok;
+use crate::header::Header;
+use crate::header::fields_ok;
+use crate::header::limits_ok;
+use crate::header::read_header;
+use crate::layout::bodies_at;
+use crate::layout::edge_kinds_at;
+use crate::layout::entries_at;
+use crate::layout::marks_at;
+use crate::layout::pairs_at;
+use crate::layout::size_of;
+use crate::layout::spans_at;
+use crate::layout::texts_at;
+use lists::reads::from;
+use x86::registers::register_exists;
+ghost use mathlib.Core.Path.{_≡_};
+ghost use Rattle.record.specs.Header.{headerOf};
+ghost use Rattle.record.specs.Asked.{sizesNo, marksAsked, startsAsked, edgeKindsAsked, bodiesAsked, atlasAsked, spansAsked, blocksNo, contentsNo, rangeNo, firstNo, answerOf};
+
+// The answer: the header of a record that may be listed, or the number of the question that got a no.
+pub enum Asked {
+    Yes(Header),
+    No(u8),
+}
+
+// Questions 1 to 4.
+pub fn sizes_no(bytes: &[u8]) -> u8
+    ensures { λ r. ⌜ r ≡ sizesNo (now (bytes .entry)) ⌝ }
+{
+    if bytes.len() < 24 {
+        return 1;
+    }
+    let h = read_header(bytes);
+    if fields_ok(h) {
+        if limits_ok(h) {
+            if bytes.len() == size_of(h) {
+                return 0;
+            }
+            return 4;
+        }
+        return 3;
+    }
+    2
+}
+
+// Question 5.
+fn marks_asked(bytes: &[u8], h: Header) -> bool
+    ensures { λ r. ⌜ r ≡ marksAsked h (now (bytes .entry)) ⌝ }
+{
+    marks_ok(from(bytes, marks_at(h)), h.blocks, h.instructions, h.edges)
+}
+
+// Question 6.
+fn starts_asked(bytes: &[u8], h: Header) -> bool
+    ensures { λ r. ⌜ r ≡ startsAsked h (now (bytes .entry)) ⌝ }
+{
+    starts_differ(from(bytes, 24), h.blocks)
+}
+
+// Question 7.
+fn edge_kinds_asked(bytes: &[u8], h: Header) -> bool
+    ensures { λ r. ⌜ r ≡ edgeKindsAsked h (now (bytes .entry)) ⌝ }
+{
+    edge_kinds_ok(from(bytes, edge_kinds_at(h)), h.edges)
+}
+
+// Question 8.
+fn bodies_asked(bytes: &[u8], h: Header) -> bool
+    ensures { λ r. ⌜ r ≡ bodiesAsked h (now (bytes .entry)) ⌝ }
+{
+    register_exists(h.frame) & bodies_ok(from(bytes, bodies_at(h)), h.instructions)
+}
+
+// Question 9.
+fn atlas_asked(bytes: &[u8], h: Header) -> bool
+    ensures { λ r. ⌜ r ≡ atlasAsked h (now (bytes .entry)) ⌝ }
+{
+    let entries = from(bytes, entries_at(h));
+    let pairs = from(bytes, pairs_at(h));
+    atlas_ok(entries, pairs, from(bytes, texts_at(h)), h.atlas, h.text)
+}
+
+// Question 10.
+fn spans_asked(bytes: &[u8], h: Header) -> bool
+    ensures { λ r. ⌜ r ≡ spansAsked h (now (bytes .entry)) ⌝ }
+{
+    spans_ok(from(bytes, spans_at(h)), h.spans)
+}
+
+// Questions 5 to 7.
+pub fn blocks_no(bytes: &[u8], h: Header) -> u8
+    ensures { λ r. ⌜ r ≡ blocksNo h (now (bytes .entry)) ⌝ }
+{
+    if marks_asked(bytes, h) {
+        if starts_asked(bytes, h) {
+            if edge_kinds_asked(bytes, h) {
+                return 0;
+            }
+            return 7;
+        }
+        return 6;
+    }
+    5
+}
+
+// Questions 8 to 10.
+pub fn contents_no(bytes: &[u8], h: Header) -> u8
+    ensures { λ r. ⌜ r ≡ contentsNo h (now (bytes .entry)) ⌝ }
+{
+    if bodies_asked(bytes, h) {
+        if atlas_asked(bytes, h) {
+            if spans_asked(bytes, h) {
+                return 0;
+            }
+            return 10;
+        }
+        return 9;
+    }
+    8
+}
+
+// Question 11.
+pub fn range_no(h: Header, from: usize, to: usize) -> u8
+    ensures { λ r. ⌜ r ≡ rangeNo h from to ⌝ }
+{
+    if (from <= to) & (to <= h.blocks as usize) {
+        return 0;
+    }
+    11
+}
+
+// The questions 1 to 11 of a record and a range of its blocks. Nothing is demanded of the caller.
+pub fn record(bytes: &[u8], from: usize, to: usize) -> Asked
+    ensures { λ r. ⌜ r ≡ answerOf (firstNo (now (bytes .entry)) from to) (headerOf (now (bytes .entry))) ⌝ }
+{
+    let sizes = sizes_no(bytes);
+    if sizes != 0 {
+        return Asked::No(sizes);
+    }
+    let h = read_header(bytes);
+    let blocks = blocks_no(bytes, h);
+    if blocks != 0 {
+        return Asked::No(blocks);
+    }
+    let contents = contents_no(bytes, h);
+    if contents != 0 {
+        return Asked::No(contents);
+    }
+    let range = range_no(h, from, to);
+    if range != 0 {
+        return Asked::No(range);
+    }
+    Asked::Yes(h)
+}
+
+// The first question that gets a no, or 0, for callers in other languages.
+#[no_mangle]
+pub extern "C" fn record_first_no(bytes: &[u8], from: usize, to: usize) -> u8
+    ensures { λ r. ⌜ r ≡ firstNo (now (bytes .entry)) from to ⌝ }
+{
+    match record(bytes, from, to) {
+        Asked::Yes(_) => 0,
+        Asked::No(n) => n,
+    }
+}
