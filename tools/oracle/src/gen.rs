@@ -71,6 +71,8 @@ const JUMPS: [&str; 17] =
 struct World {
     bits: u16,
     frame: u8,
+    /// How often, in percent, an edge does not agree with its branch.
+    noise: usize,
     starts: Vec<u64>,
     /// Addresses that something in the record stands at.
     known: Vec<u64>,
@@ -94,6 +96,8 @@ pub fn valid(rng: &mut Rng) -> Record {
             let which = rng.below(7);
             around_limit(rng, which, 0)
         }
+        111 => deepest(rng),
+        112 => wordy(rng),
         1..=5 => sized(rng, Size { blocks: (60, 200), insns: 3, atlas: 20, spans: 4 }),
         6..=60 => sized(rng, Size { blocks: (12, 40), insns: 4, atlas: 8, spans: 3 }),
         61..=100 => sized(rng, Size { blocks: (0, 2), insns: 12, atlas: 4, spans: 2 }),
@@ -113,7 +117,7 @@ fn sized(rng: &mut Rng, size: Size) -> Record {
     let starts = block_starts(rng, n);
     record.spans = spans(rng, &starts, size.spans);
     record.atlas = atlas(rng, &starts, &record.spans, size.atlas);
-    let world = world(&record, starts);
+    let world = World { noise: rng.pick(&[0, 0, 4]), ..world(&record, starts) };
     record.blocks = blocks(rng, &world, size.insns);
     keep_within_limits(&mut record);
     want_labels(rng, &mut record);
@@ -162,6 +166,52 @@ pub fn at_limits(rng: &mut Rng) -> Record {
     record
 }
 
+/// If-regions in if-regions, as deep as the limits allow, around a loop or two.
+fn deepest(rng: &mut Rng) -> Record {
+    let n = rng.range(LIMIT_B - 3, LIMIT_B);
+    let mut record = Record { bits: 64, indent: LIMIT_INDENT as u8, ..Record::default() };
+    let starts: Vec<u64> = (1..=n as u64).map(|k| k * 0x10).collect();
+    let world = world(&record, starts);
+    for place in 0..n {
+        let mut block = Block { start: world.starts[place], label: rng.below(2) as u8, ..Block::default() };
+        match n - place {
+            1 | 2 => block.insns.push(any_insn(rng, &world)),
+            3 if rng.percent(50) => branch(rng, &world, &mut block, place - 1, place),
+            _ => branch(rng, &world, &mut block, n - 1, place),
+        }
+        set_addresses(rng, &mut block);
+        record.blocks.push(block);
+    }
+    keep_within_limits(&mut record);
+    record
+}
+
+/// Lines so long that the text or the tokens pass what the program `listing` holds.
+fn wordy(rng: &mut Rng) -> Record {
+    let text = vec![rng.pick(b"a\x7f\"\x01"); 130];
+    let mut record = Record {
+        bits: rng.pick(&[32, 64]),
+        atlas: vec![Entry { address: 0x5000, kind: rng.pick(&[1, 2, 3]), text: vec![b'n'; 130] }],
+        spans: vec![(0x5000, 0x5fff)],
+        blocks: vec![Block { start: 0x1000, ..Block::default() }],
+        ..Record::default()
+    };
+    if record.atlas[0].kind < 3 {
+        record.atlas[0].text = text;
+    }
+    let world = world(&record, vec![0x1000]);
+    let lines = rng.range(10, 250);
+    let slot = Operand { kind: kind::IMM32, register: 0, number: 0x5000 };
+    let mut insns = vec![one(rng, &world, m::PUSH); lines];
+    if rng.percent(50) {
+        insns.iter_mut().for_each(|i| i.operands[0] = slot);
+    }
+    let long = Insn { operands: [slot; 5], count: 5, name: name("vlong"), ..Insn::default() };
+    insns.resize_with(2 * lines, || if rng.percent(30) { long } else { indirect(rng, &world, m::JMP) });
+    record.blocks[0].insns = insns;
+    record
+}
+
 /// Adds instructions and edges up to the given totals.
 pub fn fill_to(rng: &mut Rng, record: &mut Record, insns: usize, edges: usize) {
     let world = world(record, record.blocks.iter().map(|b| b.start).collect());
@@ -185,7 +235,7 @@ fn world(record: &Record, starts: Vec<u64>) -> World {
     for (first, last) in &record.spans {
         known.extend([*first, *last, first.wrapping_sub(1), last.wrapping_add(1)]);
     }
-    World { bits: record.bits, frame: record.frame as u8, starts, known }
+    World { bits: record.bits, frame: record.frame as u8, noise: 0, starts, known }
 }
 
 fn choose_frame(rng: &mut Rng, record: &mut Record) {
@@ -244,7 +294,7 @@ fn block_starts(rng: &mut Rng, n: usize) -> Vec<u64> {
 fn blocks(rng: &mut Rng, world: &World, insns: usize) -> Vec<Block> {
     // How often control goes where a compiler would not send it.
     let wild = rng.pick(&[0, 0, 5, 25]);
-    let nested = rng.percent(10);
+    let nested = rng.below(20);
     let mut out = Vec::with_capacity(world.starts.len());
     for place in 0..world.starts.len() {
         let mut block = Block { start: world.starts[place], ..Block::default() };
@@ -253,8 +303,8 @@ fn blocks(rng: &mut Rng, world: &World, insns: usize) -> Vec<Block> {
             recipe(rng, world, &mut block.insns);
         }
         match nested {
-            true => nest(rng, world, place, &mut block),
-            false => finish(rng, world, place, &mut block),
+            0 | 1 => nest(rng, world, place, &mut block, nested == 0),
+            _ => finish(rng, world, place, &mut block),
         }
         if rng.percent(wild) {
             block.edges.push(Edge { to: any_target(rng, world), kind: rng.below(5) as u8 });
@@ -276,13 +326,14 @@ fn set_addresses(rng: &mut Rng, block: &mut Block) {
     }
 }
 
-/// An if-region as deep as the record allows, now and then closed by a loop.
-fn nest(rng: &mut Rng, world: &World, place: usize, block: &mut Block) {
-    let n = world.starts.len();
+/// Regions in regions: `deep` ones all end at the last block, others at places that come nearer.
+fn nest(rng: &mut Rng, world: &World, place: usize, block: &mut Block, deep: bool) {
+    let last = world.starts.len() - 1;
     let to = match rng.below(8) {
-        0 => n - 1,
-        1 => n.saturating_sub(place + 1),
-        _ => n - 1 - place.min(n - 1) / 8,
+        _ if deep => last,
+        0 => last,
+        1 => last.saturating_sub(place),
+        _ => last - place / 8,
     };
     if to > place + 1 {
         branch(rng, world, block, to, place);
@@ -350,14 +401,14 @@ fn branch(rng: &mut Rng, world: &World, block: &mut Block, to: usize, place: usi
     }
     let target = world.starts[to];
     let mut insn = jcc(rng, world, target);
-    if rng.percent(3) {
+    if rng.percent(world.noise) {
         // A branch that is no near branch, or has none of its operands counted.
         insn.operands[0] = operand(rng, world);
         insn.count = rng.below(6) as u8;
     }
     block.insns.push(insn);
-    let told = if rng.percent(96) { target } else { any_target(rng, world) };
-    if !rng.percent(3) {
+    let told = if rng.percent(world.noise) { any_target(rng, world) } else { target };
+    if !rng.percent(world.noise) {
         block.edges.push(Edge { to: told, kind: edge::TRUE });
     }
     if let Some(&next) = world.starts.get(place + 1) {
