@@ -173,7 +173,15 @@ fn is_character(rest: &[u8]) -> bool {
     match rest.get(1) {
         Some(b'\\') => true,
         Some(&c) => {
-            let width = if c < 0x80 { 1 } else if c < 0xe0 { 2 } else if c < 0xf0 { 3 } else { 4 };
+            let width = if c < 0x80 {
+                1
+            } else if c < 0xe0 {
+                2
+            } else if c < 0xf0 {
+                3
+            } else {
+                4
+            };
             rest.get(1 + width) == Some(&b'\'')
         }
         None => false,

@@ -56,7 +56,7 @@ fn break_question(rng: &mut Rng, l: &Layout, call: &mut Call, question: usize) {
     match question {
         1 => call.bytes.truncate(rng.below(24)),
         2 => settings(rng, call),
-        3 => limits(rng, l, call),
+        3 => limits(rng, call),
         4 => length(rng, l, call),
         5 => counts(rng, l, call),
         6 => starts(rng, l, call),
@@ -116,16 +116,10 @@ fn settings(rng: &mut Rng, call: &mut Call) {
 }
 
 /// Where the header holds each size, and its limit.
-const SIZES: [(usize, usize); 6] = [
-    (4, gen::LIMIT_B),
-    (6, gen::LIMIT_I),
-    (8, gen::LIMIT_E),
-    (10, gen::LIMIT_A),
-    (12, gen::LIMIT_S),
-    (22, gen::LIMIT_T),
-];
+const SIZES: [(usize, usize); 6] =
+    [(4, gen::LIMIT_B), (6, gen::LIMIT_I), (8, gen::LIMIT_E), (10, gen::LIMIT_A), (12, gen::LIMIT_S), (22, gen::LIMIT_T)];
 
-fn limits(rng: &mut Rng, l: &Layout, call: &mut Call) {
+fn limits(rng: &mut Rng, call: &mut Call) {
     match rng.below(10) {
         0..=2 => {
             let which = rng.below(7);
@@ -146,7 +140,6 @@ fn limits(rng: &mut Rng, l: &Layout, call: &mut Call) {
                 _ => limit + 1,
             };
             put_u16(call, at, size);
-            let _ = l;
         }
     }
 }
@@ -160,9 +153,8 @@ fn length(rng: &mut Rng, l: &Layout, call: &mut Call) {
             call.bytes.resize(n + more, rng.below(256) as u8);
         }
         2 => {
-            let ends = [
-                l.starts, l.marks, l.targets, l.kinds, l.addresses, l.bodies, l.atlas, l.atlas_marks, l.spans, l.text, l.end,
-            ];
+            let ends =
+                [l.starts, l.marks, l.targets, l.kinds, l.addresses, l.bodies, l.atlas, l.atlas_marks, l.spans, l.text, l.end];
             let at = rng.pick(&ends) + rng.below(3);
             call.bytes.truncate((at - 1).max(24));
         }
@@ -433,7 +425,7 @@ fn range(rng: &mut Rng, l: &Layout, call: &mut Call) {
 
 /// Damage that aims at nothing.
 fn fuzz(rng: &mut Rng, l: &Layout, call: &mut Call) {
-    match rng.below(6) {
+    match rng.below(9) {
         0 => {
             let n = rng.pick(&[0, 1, 23, 24, 25, 36, 116, 300]);
             call.bytes = (0..n).map(|_| rng.next() as u8).collect();
@@ -450,6 +442,11 @@ fn fuzz(rng: &mut Rng, l: &Layout, call: &mut Call) {
         3 if l.a > 0 => {
             put_u16(call, 10, l.a - 1);
             put_u16(call, 22, l.t + 10);
+        }
+        // A start that equals the bytes after the starts is no start twice.
+        4 if l.b > 1 => {
+            let marks = get(call, l.marks, 8);
+            put(call, l.starts + 8 * rng.below(l.b), &marks);
         }
         _ => {
             for _ in 0..rng.range(1, 3) {

@@ -104,8 +104,9 @@ fn right_instructions(range: &Range, listing: &Listing, regions: &Regions) -> Re
             _ => None,
         })
         .collect();
-    let expected: Vec<usize> =
-        (range.from..range.to).flat_map(|p| (range.first[p]..range.first[p + 1]).filter(move |&n| !is_silent(range, regions, p, n))).collect();
+    let expected: Vec<usize> = (range.from..range.to)
+        .flat_map(|p| (range.first[p]..range.first[p + 1]).filter(move |&n| !is_silent(range, regions, p, n)))
+        .collect();
     match written == expected {
         true => Ok(()),
         false => Err(format!("lines for instructions {written:?}, where {expected:?} are not silent")),

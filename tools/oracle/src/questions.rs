@@ -9,17 +9,8 @@ struct Asked<'a> {
 }
 
 const QUESTIONS: [fn(&Asked) -> bool; 11] = [
-    has_header,
-    has_known_settings,
-    is_within_limits,
-    has_announced_length,
-    has_counts_that_add_up,
-    has_different_starts,
-    has_known_edge_kinds,
-    has_known_instructions,
-    has_good_atlas,
-    has_good_spans,
-    has_good_range,
+    has_header, has_known_settings, is_within_limits, has_announced_length, has_counts_that_add_up, has_different_starts,
+    has_known_edge_kinds, has_known_instructions, has_good_atlas, has_good_spans, has_good_range,
 ];
 
 /// The number of the first question that gets a no; 0 if all get a yes.
