@@ -10,6 +10,12 @@ use crate::questions;
 use crate::record::{Layout, Record, HEADER};
 use crate::rng::Rng;
 
+/// A comparison takes a seed and a number of cases, and tells whether nothing differs.
+pub type Comparison = fn(u64, usize) -> Result<bool, String>;
+
+/// The comparisons by name. `tools/compare` has the same names, with the library that each needs.
+pub const COMPARISONS: &[(&str, Comparison)] = &[("questions", questions), ("sanity", sanity)];
+
 /// Calls made from each valid record, itself included.
 const CALLS_A_RECORD: usize = 8;
 
@@ -159,7 +165,6 @@ pub fn questions(seed: u64, count: usize) -> Result<bool, String> {
 
 /// Generated records are accepted and read back, the Rust lists them, and demand 3 holds of it.
 pub fn sanity(seed: u64, count: usize) -> Result<bool, String> {
-    std::panic::set_hook(Box::new(|_| {}));
     let mut rng = Rng::new(seed);
     let mut tally = Tally::new("sanity");
     let mut seen = Seen::default();

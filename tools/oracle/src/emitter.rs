@@ -28,6 +28,40 @@ pub fn run(record: &Record, from: usize, to: usize) -> (Vec<PseudoLine>, u64) {
     (out, tag)
 }
 
+/// Every operand slot of every instruction, read as `Ctx::op` does.
+pub fn operands(record: &Record) -> Vec<[Vec<Token>; 5]> {
+    let binary = Binary::new(record);
+    let ctx = context(record, &binary, 0);
+    let slots = |i: &Ins| std::array::from_fn(|k| joined(ctx.op(i, k as u32)));
+    record.insns().map(|i| slots(&Ins::new(i, 0))).collect()
+}
+
+/// The address of every instruction's memory operand, as `lea` prints it.
+pub fn addresses(record: &Record) -> Vec<Vec<Token>> {
+    let binary = Binary::new(record);
+    let ctx = context(record, &binary, 0);
+    record.insns().map(|i| joined(ctx.mem(&Ins::new(i, 0), false))).collect()
+}
+
+/// What a condition (1 to 16) prints when each instruction tests it, block by block.
+pub fn conditions(record: &Record, number: u8) -> Vec<Vec<Token>> {
+    let binary = Binary::new(record);
+    let ctx = context(record, &binary, 0);
+    let mut out = Vec::new();
+    for block in &record.blocks {
+        let insns: Vec<Ins> = block.insns.iter().map(|i| Ins::new(i, 0)).collect();
+        out.extend((1..=insns.len()).map(|n| joined(condition(&ctx, &insns[..n], ConditionCode::new(number)))));
+    }
+    out
+}
+
+/// The tokens as a line of their own has them.
+fn joined(e: Expr) -> Vec<Token> {
+    let mut line = Line::default();
+    line.extend(e);
+    line.toks
+}
+
 /// A number such that no block starts at it or at one of the I numbers after it.
 fn free_tag(record: &Record) -> u64 {
     let taken: BTreeSet<u64> = record.blocks.iter().map(|b| b.start >> 48).collect();

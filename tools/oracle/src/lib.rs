@@ -6,6 +6,7 @@ pub mod damage;
 pub mod demand3;
 pub mod gen;
 pub mod listing;
+pub mod pieces;
 pub mod questions;
 pub mod record;
 pub mod rng;

@@ -1,5 +1,6 @@
 //! The six lists of document 01, made from the Rust's lines.
 
+use std::cell::Cell;
 use std::panic::{catch_unwind, AssertUnwindSafe};
 
 use crate::emitter::{self, PseudoLine};
@@ -35,10 +36,28 @@ pub fn list(bytes: &[u8], from: usize, to: usize) -> Result<Listing, String> {
 }
 
 pub fn list_record(record: &Record, from: usize, to: usize) -> Result<Listing, String> {
-    match catch_unwind(AssertUnwindSafe(|| emitter::run(record, from, to))) {
+    QUIET.set(true);
+    let run = catch_unwind(AssertUnwindSafe(|| emitter::run(record, from, to)));
+    QUIET.set(false);
+    match run {
         Ok((lines, tag)) => Ok(lists(record, &lines, tag)),
         Err(e) => Err(message(e)),
     }
+}
+
+thread_local! {
+    /// The Rust runs: its panics are answers and print nothing.
+    static QUIET: Cell<bool> = const { Cell::new(false) };
+}
+
+/// Keeps the Rust's panics from printing; those of the oracle itself still do.
+pub fn report_panics_as_answers() {
+    let usual = std::panic::take_hook();
+    std::panic::set_hook(Box::new(move |info| {
+        if !QUIET.get() {
+            usual(info);
+        }
+    }));
 }
 
 fn message(e: Box<dyn std::any::Any + Send>) -> String {
@@ -99,6 +118,16 @@ impl Listing {
         &self.text[end(first)..end(self.line_ends[n] as usize)]
     }
 
+    /// The first list that differs, in words. Origins are not compared.
+    pub fn difference(&self, other: &Listing) -> Option<String> {
+        first_apart("text", &self.text, &other.text)
+            .or_else(|| first_apart("token ends", &self.token_ends, &other.token_ends))
+            .or_else(|| first_apart("token kinds", &self.token_kinds, &other.token_kinds))
+            .or_else(|| first_apart("line addresses", &self.line_addresses, &other.line_addresses))
+            .or_else(|| first_apart("line marks", &self.line_marks, &other.line_marks))
+            .or_else(|| first_apart("line ends", &self.line_ends, &other.line_ends))
+    }
+
     /// What the program `listing` prints.
     pub fn print(&self) -> Vec<u8> {
         let mut out = format!("lines={}\n", self.lines()).into_bytes();
@@ -114,4 +143,9 @@ impl Listing {
         }
         out
     }
+}
+
+fn first_apart<T: PartialEq + std::fmt::Debug>(what: &str, a: &[T], b: &[T]) -> Option<String> {
+    let at = (0..a.len().max(b.len())).find(|&n| a.get(n) != b.get(n))?;
+    Some(format!("{what} differ at {at}: {:?} and {:?}, lengths {} and {}", a.get(at), b.get(at), a.len(), b.len()))
 }

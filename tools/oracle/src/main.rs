@@ -12,6 +12,7 @@ const USAGE: &str = "usage: oracle list FILE [FROM TO]     the Rust's listing of
        oracle record SEED            a generated record, to standard output";
 
 fn main() -> ExitCode {
+    listing::report_panics_as_answers();
     let words: Vec<String> = std::env::args().skip(1).collect();
     let words: Vec<&str> = words.iter().map(|w| w.as_str()).collect();
     let done = match words[..] {
@@ -19,8 +20,7 @@ fn main() -> ExitCode {
         ["list", file, from, to] => number(from).and_then(|f| number(to).and_then(|t| list(file, Some((f, t))))),
         ["example"] => write(&record::example().to_bytes()),
         ["record", seed] => number(seed).and_then(|s| write(&compare::record(s as u64))),
-        ["questions", seed, count] => both(seed, count).and_then(|(s, c)| compare::questions(s, c)),
-        ["sanity", seed, count] => both(seed, count).and_then(|(s, c)| compare::sanity(s, c)),
+        [what, seed, count] => compare(what, seed, count),
         _ => Err(USAGE.to_string()),
     };
     match done {
@@ -37,8 +37,10 @@ fn number(word: &str) -> Result<usize, String> {
     word.parse().map_err(|_| format!("{word} is not a number"))
 }
 
-fn both(seed: &str, count: &str) -> Result<(u64, usize), String> {
-    Ok((number(seed)? as u64, number(count)?))
+fn compare(what: &str, seed: &str, count: &str) -> Result<bool, String> {
+    let found = compare::COMPARISONS.iter().find(|(name, _)| *name == what);
+    let (_, run) = found.ok_or_else(|| USAGE.to_string())?;
+    run(number(seed)? as u64, number(count)?)
 }
 
 fn write(bytes: &[u8]) -> Result<bool, String> {
