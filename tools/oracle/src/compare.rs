@@ -111,13 +111,29 @@ fn answer(n: u8) -> String {
 }
 
 /// How often each answer came.
-struct Histogram([usize; 12]);
+#[derive(Default)]
+struct Histogram {
+    answers: [usize; 12],
+    sampled: usize,
+    several: usize,
+}
 
 impl Histogram {
-    fn print(&self, calls: usize) {
-        for (n, count) in self.0.iter().enumerate() {
+    fn add(&mut self, n: usize, call: &Call, answer: u8) {
+        self.answers[answer as usize] += 1;
+        if n % 16 == 3 && answer > 0 {
+            self.sampled += 1;
+            self.several += (questions::count_of_no(&call.bytes, call.from, call.to) > 1) as usize;
+        }
+    }
+
+    fn print(&self) {
+        let calls: usize = self.answers.iter().sum();
+        println!("first question that gets a no, of {calls} generated calls:");
+        for (n, count) in self.answers.iter().enumerate() {
             println!("  {n:2} {:28} {count:9} {:5.1} %", ASKED[n], 100.0 * *count as f64 / calls.max(1) as f64);
         }
+        println!("  of {} refused calls sampled, {} break more than one question", self.sampled, self.several);
     }
 }
 
@@ -136,30 +152,27 @@ fn each_call(seed: u64, count: usize, mut each: impl FnMut(usize, &Call) -> Resu
     Ok(())
 }
 
-/// Questions 1 to 11: the port against `questions.rs`.
+/// Questions 1 to 11: the port against `questions.rs`, on all small changes of one record and on
+/// so many generated calls.
 pub fn questions(seed: u64, count: usize) -> Result<bool, String> {
     let port = port::first_no()?;
     let mut tally = Tally::new("questions");
-    let mut histogram = Histogram([0; 12]);
-    let mut sampled = 0;
-    let mut several = 0;
-    each_call(seed, count, |n, call| {
+    let mut ask = |call: &Call| {
         let ours = questions::first_no(&call.bytes, call.from, call.to);
         let theirs = port(&call.bytes, call.from, call.to);
         tally.compared += 1;
-        histogram.0[ours as usize] += 1;
-        if n % 16 == 3 && ours > 0 {
-            sampled += 1;
-            several += (questions::count_of_no(&call.bytes, call.from, call.to) > 1) as usize;
+        if ours != theirs {
+            tally.differs(call, || format!("document 01 says {}, the port {}", answer(ours), answer(theirs)))?;
         }
-        match ours == theirs {
-            true => Ok(()),
-            false => tally.differs(call, || format!("document 01 says {}, the port {}", answer(ours), answer(theirs))),
-        }
+        Ok(ours)
+    };
+    damage::each_small_change(|call| ask(call).map(|_| ()))?;
+    let mut histogram = Histogram::default();
+    each_call(seed, count, |n, call| {
+        histogram.add(n, call, ask(call)?);
+        Ok(())
     })?;
-    println!("first question that gets a no:");
-    histogram.print(tally.compared);
-    println!("  of {sampled} refused calls sampled, {several} break more than one question");
+    histogram.print();
     Ok(tally.end())
 }
 

@@ -1,7 +1,7 @@
 //! Calls that break chosen questions.
 
 use crate::gen;
-use crate::record::{Layout, BODY};
+use crate::record::{Layout, BODY, HEADER};
 use crate::rng::Rng;
 
 /// What a call lends: a record's bytes and a range.
@@ -49,6 +49,33 @@ pub fn damaged(rng: &mut Rng, base: &Call) -> Call {
         break_question(rng, &layout, &mut call, q);
     }
     call
+}
+
+/// Every change of one byte and of one header field of a small valid record, every shorter length and some longer ones.
+pub fn each_small_change(mut each: impl FnMut(&Call) -> Result<(), String>) -> Result<(), String> {
+    let record = gen::small();
+    let base = Call { bytes: record.to_bytes(), from: 0, to: record.blocks.len() };
+    for n in 0..base.bytes.len() + 100 {
+        let mut call = base.clone();
+        call.bytes.resize(n, 0);
+        each(&call)?;
+    }
+    let mut call = base.clone();
+    for at in 0..base.bytes.len() {
+        for byte in 0..=255 {
+            put(&mut call, at, &[byte]);
+            each(&call)?;
+        }
+        put(&mut call, at, &base.bytes[at..=at]);
+    }
+    for at in (0..HEADER).step_by(2) {
+        for n in 0..=0xffff {
+            put_u16(&mut call, at, n);
+            each(&call)?;
+        }
+        put(&mut call, at, &base.bytes[at..at + 2]);
+    }
+    Ok(())
 }
 
 /// Breaks a question, if the record has what the question asks about.

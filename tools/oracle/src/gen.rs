@@ -4,7 +4,7 @@ mod atlas;
 mod flow;
 mod insns;
 
-use crate::record::{kind, mnemonic as m, name, register as r, Block, Edge, Entry, Insn, Operand, Record};
+use crate::record::{edge, kind, mnemonic as m, name, register as r, Block, Edge, Entry, Insn, Operand, Record};
 use crate::rng::Rng;
 
 use flow::{block_starts, blocks, branch, set_addresses, want_labels};
@@ -82,6 +82,30 @@ fn sized(rng: &mut Rng, size: Size) -> Record {
     keep_within_limits(&mut record);
     want_labels(rng, &mut record);
     record
+}
+
+/// A record of a few hundred bytes with something of everything.
+pub fn small() -> Record {
+    let mut other = Insn { address: 0x1000, count: 1, base: r::RBP, condition: 6, name: name("j_09az"), ..Insn::default() };
+    other.operands[0] = Operand { kind: kind::NEAR, register: 0, number: 0x1000 };
+    let set = Insn { address: 0x1004, mnemonic: m::SETCC, condition: 1, count: 2, index: r::RAX, scale: 8, ..Insn::default() };
+    let mov = Insn { address: 0x1008, mnemonic: m::MOV, count: 2, segment: r::GS, skip: 1, ..Insn::default() };
+    let edges = vec![Edge { to: 0x1000, kind: edge::TRUE }, Edge { to: 0x1008, kind: edge::CASE }];
+    let entry = |address: u64, kind: u8, text: &str| Entry { address, kind, text: text.into() };
+    Record {
+        bits: 64,
+        frame: r::RBP.into(),
+        shift: -8,
+        shift_given: 1,
+        blocks: vec![
+            Block { start: 0x1000, label: 1, insns: vec![other, set], edges },
+            Block { start: 0x1100, insns: vec![mov], ..Block::default() },
+            Block { start: 0x1_1000, ..Block::default() },
+        ],
+        atlas: vec![entry(0x2000, 1, "a\n"), entry(0x2001, 2, ""), entry(0x1_0000, 3, "n~ ")],
+        spans: vec![(0x1000, 0x1000), (0, u64::MAX)],
+        ..Record::default()
+    }
 }
 
 /// A small record that one size puts at its limit, or `over` above it: B, I, E, A, S, T, indent.

@@ -32,6 +32,7 @@ pub mod mnemonic {
     pub const CMP: u8 = 38;
     pub const TEST: u8 = 39;
     pub const BT: u8 = 40;
+    pub const NOP: u8 = 42;
     pub const LAST: u8 = 45;
 }
 

@@ -193,3 +193,31 @@ fn pieces_of_the_example() {
 fn generated_records_are_sane() {
     assert_eq!(crate::compare::sanity(11, 2000), Ok(true));
 }
+
+/// The first no after a change of the small record.
+fn no_after(change: impl FnOnce(&mut Record)) -> u8 {
+    let mut record = crate::gen::small();
+    change(&mut record);
+    crate::questions::first_no(&record.to_bytes(), 0, 3)
+}
+
+#[test]
+fn questions_in_order() {
+    assert_eq!(no_after(|_| ()), 0);
+    assert_eq!(crate::questions::first_no(&[0; 23], 9, 0), 1);
+    assert_eq!(no_after(|r| r.shift_given = 0), 2);
+    assert_eq!(no_after(|r| r.indent = 56), 3);
+    let mut longer = crate::gen::small().to_bytes();
+    longer.push(0);
+    assert_eq!(crate::questions::first_no(&longer, 9, 0), 4);
+    assert_eq!(no_after(|r| r.blocks[2].label = 2), 5);
+    assert_eq!(no_after(|r| r.blocks[2].start = 0x1000), 6);
+    assert_eq!(no_after(|r| r.blocks[0].edges[1].kind = 5), 7);
+    assert_eq!(no_after(|r| r.frame = 98), 8);
+    assert_eq!(no_after(|r| r.blocks[0].insns[0].name[10] = b'a'), 8);
+    assert_eq!(no_after(|r| r.atlas[1].address = 0x2000), 9);
+    assert_eq!(no_after(|r| r.atlas[2].text = vec![]), 9);
+    assert_eq!(no_after(|r| r.spans[0] = (1, 0)), 10);
+    assert_eq!(crate::questions::first_no(&crate::gen::small().to_bytes(), 2, 1), 11);
+    assert_eq!(crate::questions::first_no(&crate::gen::small().to_bytes(), 3, 4), 11);
+}

@@ -2,7 +2,7 @@
 
 use super::insns::{any_number, conditional, flag_writer, indirect, jcc, memory, operand, recipe, two};
 use super::World;
-use crate::record::{edge, kind, mnemonic as m, Block, Edge, Insn, Operand, Record};
+use crate::record::{edge, kind, mnemonic as m, register as r, Block, Edge, Insn, Operand, Record};
 use crate::rng::Rng;
 
 /// Different addresses, mostly rising.
@@ -112,12 +112,7 @@ fn finish(rng: &mut Rng, world: &World, place: usize, block: &mut Block) {
             let to = any_number(rng, world);
             jump(rng, world, block, to);
         }
-        75..=84 => {
-            if rng.percent(60) {
-                block.insns.push(two(rng, world, m::MOV, 80));
-            }
-            block.insns.push(Insn { mnemonic: m::RET, count: rng.below(2) as u8, ..memory(rng, world) });
-        }
+        75..=84 => give_back(rng, world, block),
         85..=87 => set_with_edge(rng, world, block),
         88..=90 => {
             block.insns.push(indirect(rng, world, m::JMP));
@@ -127,6 +122,20 @@ fn finish(rng: &mut Rng, world: &World, place: usize, block: &mut Block) {
         }
         _ => fall(world, block, place),
     }
+}
+
+/// A return, mostly after a write of rax or a call that is near or just too far.
+fn give_back(rng: &mut Rng, world: &World, block: &mut Block) {
+    if rng.percent(60) {
+        let how = if rng.percent(80) { m::MOV } else { m::CALL };
+        block.insns.push(two(rng, world, how, r::RAX));
+    }
+    if rng.percent(30) {
+        for _ in 0..rng.range(4, 7) {
+            block.insns.push(Insn { mnemonic: m::NOP, ..Insn::default() });
+        }
+    }
+    block.insns.push(Insn { mnemonic: m::RET, count: rng.below(2) as u8, ..memory(rng, world) });
 }
 
 fn fall(world: &World, block: &mut Block, place: usize) {
