@@ -4,6 +4,7 @@ use std::cell::Cell;
 use std::panic::{catch_unwind, AssertUnwindSafe};
 
 use crate::emitter::{self, PseudoLine};
+use crate::model::TokenKind;
 use crate::record::Record;
 
 /// The lists of an accepted call.
@@ -89,19 +90,20 @@ fn lists(record: &Record, lines: &[PseudoLine], tag: u64) -> Listing {
     out
 }
 
-/// Only a lone closing brace has no address, and only lines of instructions have a tagged one.
+/// Only a lone closing brace has no address, and only lines of instructions have a tagged one. Names
+/// may have any text, so kinds are asked too.
 fn origin(record: &Record, line: &PseudoLine, tag: u64) -> Origin {
     let Some(address) = line.address else { return Origin::Close };
-    let first = line.tokens[0].t.as_str();
-    let last = line.tokens[line.tokens.len() - 1].t.as_str();
+    let first = &line.tokens[0];
+    let last = &line.tokens[line.tokens.len() - 1];
     if address >> 48 != tag >> 48 {
         let place = record.blocks.iter().position(|b| b.start == address).expect("a block's line");
-        return if first == "do" { Origin::Do(place) } else { Origin::Label(place) };
+        return if first.k == TokenKind::Keyword { Origin::Do(place) } else { Origin::Label(place) };
     }
     let n = (address - tag) as usize;
-    match first {
-        "} " => Origin::While(n),
-        "if" if last.ends_with('{') => Origin::Open(n),
+    match (first.k, first.t.as_str()) {
+        (TokenKind::Punct, "} ") => Origin::While(n),
+        (TokenKind::Keyword, "if") if last.t.ends_with('{') => Origin::Open(n),
         _ => Origin::Instruction(n),
     }
 }

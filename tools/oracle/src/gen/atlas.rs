@@ -64,8 +64,8 @@ fn string(rng: &mut Rng) -> Vec<u8> {
 
 fn symbol(rng: &mut Rng) -> Vec<u8> {
     match rng.below(10) {
-        0 => b"}".to_vec(),
-        1 => b"do".to_vec(),
+        0 => rng.pick(&["}", "} ", "do", "if", "while", ") {"]).into(),
+        1 => b"a{b}".to_vec(),
         2 => {
             let n = rng.range(1, 255);
             (0..n).map(|_| rng.range(0x20, 0x7e) as u8).collect()
