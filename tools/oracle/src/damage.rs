@@ -455,7 +455,7 @@ fn fuzz(rng: &mut Rng, l: &Layout, call: &mut Call) {
     match rng.below(9) {
         0 => {
             let n = rng.pick(&[0, 1, 23, 24, 25, 36, 116, 300]);
-            call.bytes = (0..n).map(|_| rng.next() as u8).collect();
+            call.bytes = (0..n).map(|_| rng.u64() as u8).collect();
         }
         // Sizes that trade places without changing the length: the arrays are read elsewhere.
         1 if l.t >= 12 => {
@@ -478,7 +478,7 @@ fn fuzz(rng: &mut Rng, l: &Layout, call: &mut Call) {
         _ => {
             for _ in 0..rng.range(1, 3) {
                 let at = rng.below(call.bytes.len());
-                let byte = if rng.percent(50) { call.bytes[at] ^ 1 << rng.below(8) } else { rng.next() as u8 };
+                let byte = if rng.percent(50) { call.bytes[at] ^ 1 << rng.below(8) } else { rng.u64() as u8 };
                 put(call, at, &[byte]);
             }
         }

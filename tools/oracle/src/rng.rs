@@ -7,7 +7,7 @@ impl Rng {
         Rng(seed ^ 0x5851_f42d_4c95_7f2d)
     }
 
-    pub fn next(&mut self) -> u64 {
+    pub fn u64(&mut self) -> u64 {
         self.0 = self.0.wrapping_add(0x9e37_79b9_7f4a_7c15);
         let mut z = self.0;
         z = (z ^ (z >> 30)).wrapping_mul(0xbf58_476d_1ce4_e5b9);
@@ -20,7 +20,7 @@ impl Rng {
         if n == 0 {
             return 0;
         }
-        ((self.next() >> 32) as usize * n) >> 32
+        ((self.u64() >> 32) as usize * n) >> 32
     }
 
     /// A number from a to b, both included.
@@ -39,7 +39,7 @@ impl Rng {
     /// A number of a random width.
     pub fn any_width(&mut self) -> u64 {
         let shift = self.below(64);
-        self.next() >> shift
+        self.u64() >> shift
     }
 
     pub fn shuffle<T>(&mut self, v: &mut [T]) {

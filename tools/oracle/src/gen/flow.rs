@@ -12,7 +12,7 @@ pub fn block_starts(rng: &mut Rng, n: usize) -> Vec<u64> {
         1 => (0..n as u64).map(|k| (k << 56) ^ (k / 256)).collect(),
         2 => (0..n as u64).map(|k| if k % 2 == 0 { k } else { u64::MAX - k }).collect(),
         3 => {
-            let odd = rng.next() | 1;
+            let odd = rng.u64() | 1;
             (1..=n as u64).map(|k| k.wrapping_mul(odd)).collect()
         }
         _ => {

@@ -265,7 +265,7 @@ pub fn operand(rng: &mut Rng, world: &World) -> Operand {
     // Bytes that no kind of operand reads.
     if rng.percent(4) {
         match o.kind {
-            kind::REGISTER => o.number = rng.next(),
+            kind::REGISTER => o.number = rng.u64(),
             _ => o.register = any_register(rng),
         }
     }
