@@ -1,0 +1,267 @@
+//! The comparisons. Each ends with the line `WHAT: N compared, M differ`.
+
+use std::path::PathBuf;
+
+use crate::damage::{self, Call};
+use crate::demand3;
+use crate::gen;
+use crate::listing;
+use crate::questions;
+use crate::record::{Layout, Record, HEADER};
+use crate::rng::Rng;
+
+/// A comparison takes a seed and a number of cases, and tells whether nothing differs.
+pub type Comparison = fn(u64, usize) -> Result<bool, String>;
+
+/// The comparisons by name. `tools/compare` has the same names, with the library that each needs.
+pub const COMPARISONS: &[(&str, Comparison)] = &[("questions", questions), ("sanity", sanity)];
+
+/// Calls made from each valid record, itself included.
+const CALLS_A_RECORD: usize = 8;
+
+/// The bytes of a generated record.
+pub fn record(seed: u64) -> Vec<u8> {
+    gen::valid(&mut Rng::new(seed)).to_bytes()
+}
+
+/// Counts what was compared, and keeps the first case that differs.
+struct Tally {
+    what: &'static str,
+    compared: usize,
+    differ: usize,
+}
+
+impl Tally {
+    fn new(what: &'static str) -> Tally {
+        Tally { what, compared: 0, differ: 0 }
+    }
+
+    fn differs(&mut self, call: &Call, words: impl FnOnce() -> String) -> Result<(), String> {
+        self.differ += 1;
+        if self.differ > 1 {
+            return Ok(());
+        }
+        let file = self.keep(&call.bytes)?;
+        println!("{}: the first that differs is kept in {}", self.what, file.display());
+        println!("  {}", describe(call));
+        println!("  {}", words());
+        Ok(())
+    }
+
+    /// COMPARE_DIR names the folder; `target/compare` otherwise.
+    fn keep(&self, bytes: &[u8]) -> Result<PathBuf, String> {
+        let dir = PathBuf::from(std::env::var_os("COMPARE_DIR").unwrap_or_else(|| "target/compare".into()));
+        let file = dir.join(format!("{}.record", self.what));
+        std::fs::create_dir_all(&dir)
+            .and_then(|()| std::fs::write(&file, bytes))
+            .map_err(|e| format!("{}: {e}", file.display()))?;
+        Ok(file)
+    }
+
+    fn end(&self) -> bool {
+        println!("{}: {} compared, {} differ", self.what, self.compared, self.differ);
+        self.differ == 0
+    }
+}
+
+/// A call in words: the length, the range and the header's fields.
+fn describe(call: &Call) -> String {
+    let Call { bytes, from, to } = call;
+    let range = format!("{} bytes, from {from} to {to}", bytes.len());
+    if bytes.len() < HEADER {
+        return range;
+    }
+    let l = Layout::of(bytes);
+    let u16_at = |at: usize| u16::from_le_bytes([bytes[at], bytes[at + 1]]);
+    let shift = i32::from_le_bytes(bytes[16..20].try_into().unwrap());
+    format!(
+        "{range}; bits {}, convention {}, B {}, I {}, E {}, A {}, S {}, frame {}, shift {shift} (mark {}), indent {}, T {}",
+        u16_at(0),
+        u16_at(2),
+        l.b,
+        l.i,
+        l.e,
+        l.a,
+        l.s,
+        u16_at(14),
+        bytes[20],
+        bytes[21],
+        l.t
+    )
+}
+
+/// What each question asks, for people.
+const ASKED: [&str; 12] = [
+    "all get a yes",
+    "at least 24 bytes",
+    "bits, convention, shift",
+    "limits",
+    "length",
+    "counts and label marks",
+    "block starts",
+    "edge kinds",
+    "instructions and registers",
+    "atlas",
+    "spans",
+    "range",
+];
+
+fn answer(n: u8) -> String {
+    format!("{n} ({})", ASKED.get(n as usize).unwrap_or(&"no such question"))
+}
+
+/// How often each answer came.
+#[derive(Default)]
+struct Histogram {
+    answers: [usize; 12],
+    sampled: usize,
+    several: usize,
+}
+
+impl Histogram {
+    fn add(&mut self, n: usize, call: &Call, answer: u8) {
+        self.answers[answer as usize] += 1;
+        if n % 16 == 3 && answer > 0 {
+            self.sampled += 1;
+            self.several += (questions::count_of_no(&call.bytes, call.from, call.to) > 1) as usize;
+        }
+    }
+
+    fn print(&self) {
+        let calls: usize = self.answers.iter().sum();
+        println!("first question that gets a no, of {calls} generated calls:");
+        for (n, count) in self.answers.iter().enumerate() {
+            println!("  {n:2} {:28} {count:9} {:5.1} %", ASKED[n], 100.0 * *count as f64 / calls.max(1) as f64);
+        }
+        println!("  of {} refused calls sampled, {} break more than one question", self.sampled, self.several);
+    }
+}
+
+/// Hands on calls, valid and damaged, until so many were made.
+fn each_call(seed: u64, count: usize, mut each: impl FnMut(usize, &Call) -> Result<(), String>) -> Result<(), String> {
+    let mut rng = Rng::new(seed);
+    let mut made = 0;
+    while made < count {
+        let base = damage::valid_call(&mut rng);
+        each(made, &base)?;
+        for k in 1..CALLS_A_RECORD.min(count - made) {
+            each(made + k, &damage::damaged(&mut rng, &base))?;
+        }
+        made += CALLS_A_RECORD;
+    }
+    Ok(())
+}
+
+/// Questions 1 to 11: the port against `questions.rs`, on all small changes of one record and on
+/// so many generated calls.
+pub fn questions(seed: u64, count: usize) -> Result<bool, String> {
+    let port = port::first_no()?;
+    let mut tally = Tally::new("questions");
+    let mut ask = |call: &Call| {
+        let ours = questions::first_no(&call.bytes, call.from, call.to);
+        let theirs = port(&call.bytes, call.from, call.to);
+        tally.compared += 1;
+        if ours != theirs {
+            tally.differs(call, || format!("document 01 says {}, the port {}", answer(ours), answer(theirs)))?;
+        }
+        Ok(ours)
+    };
+    damage::each_small_change(|call| ask(call).map(|_| ()))?;
+    let mut histogram = Histogram::default();
+    each_call(seed, count, |n, call| {
+        histogram.add(n, call, ask(call)?);
+        Ok(())
+    })?;
+    histogram.print();
+    Ok(tally.end())
+}
+
+/// Generated records are accepted and read back, the Rust lists them, and demand 3 holds of it.
+pub fn sanity(seed: u64, count: usize) -> Result<bool, String> {
+    let mut rng = Rng::new(seed);
+    let mut tally = Tally::new("sanity");
+    let mut seen = Seen::default();
+    for _ in 0..count {
+        let call = damage::valid_call(&mut rng);
+        tally.compared += 1;
+        if let Err(why) = is_sane(&call, &mut seen) {
+            tally.differs(&call, || why)?;
+        }
+    }
+    seen.print();
+    Ok(tally.end())
+}
+
+fn is_sane(call: &Call, seen: &mut Seen) -> Result<(), String> {
+    let Call { bytes, from, to } = call;
+    let no = questions::first_no(bytes, *from, *to);
+    if no != 0 {
+        return Err(format!("a valid record is refused by question {}", answer(no)));
+    }
+    let record = Record::parse(bytes);
+    if record.to_bytes() != *bytes {
+        return Err("reading and writing changes the bytes".to_string());
+    }
+    let listing = listing::list_record(&record, *from, *to).map_err(|e| format!("the Rust panics: {e}"))?;
+    seen.add(&listing);
+    demand3::check(&record, *from, *to, &listing)
+}
+
+/// What the listings held, to see that the generator reaches every shape.
+#[derive(Default)]
+struct Seen {
+    lines: usize,
+    longest: usize,
+    most_lines: usize,
+    most_tokens: usize,
+    labels: usize,
+    dos: usize,
+    ifs: usize,
+    deepest: u16,
+}
+
+impl Seen {
+    fn add(&mut self, listing: &listing::Listing) {
+        use listing::Origin::*;
+        self.lines += listing.lines();
+        self.most_lines = self.most_lines.max(listing.lines());
+        self.longest = self.longest.max(listing.text.len());
+        self.most_tokens = self.most_tokens.max(listing.token_ends.len());
+        self.deepest = self.deepest.max(listing.line_marks.iter().map(|m| m % 256).max().unwrap_or(0));
+        for origin in &listing.origins {
+            match origin {
+                Label(_) => self.labels += 1,
+                Do(_) => self.dos += 1,
+                Open(_) => self.ifs += 1,
+                _ => {}
+            }
+        }
+    }
+
+    fn print(&self) {
+        println!("  lines {}, labels {}, do-loops {}, if-regions {}", self.lines, self.labels, self.dos, self.ifs);
+        println!(
+            "  at most: {} lines, {} tokens, {} text bytes in a listing, indent {}",
+            self.most_lines, self.most_tokens, self.longest, self.deepest
+        );
+    }
+}
+
+/// The port's functions, as far as their archives are linked.
+mod port {
+    pub type FirstNo = fn(&[u8], usize, usize) -> u8;
+
+    #[cfg(port_record)]
+    pub fn first_no() -> Result<FirstNo, String> {
+        extern "C" {
+            fn record_first_no(bytes: *const u8, len: usize, from: usize, to: usize) -> u8;
+        }
+        // The function is total: it reads only the bytes lent.
+        Ok(|bytes, from, to| unsafe { record_first_no(bytes.as_ptr(), bytes.len(), from, to) })
+    }
+
+    #[cfg(not(port_record))]
+    pub fn first_no() -> Result<FirstNo, String> {
+        Err("librecord.a is not linked: tools/compare makes it and sets STATICLIB_DIR".to_string())
+    }
+}

@@ -1,0 +1,158 @@
+//! Demand 3 on a listing, from document 01's words: no more lines than I + 2B, exactly the lines of
+//! the instructions that are not silent and in their order, braces that match, and indents that
+//! follow the braces.
+
+use crate::listing::{Listing, Origin};
+use crate::record::{kind, mnemonic as m, register as r, Insn, Record};
+
+/// What is wrong, if something is.
+pub fn check(record: &Record, from: usize, to: usize, listing: &Listing) -> Result<(), String> {
+    let range = Range::new(record, from, to);
+    few_lines(&range, listing)?;
+    let regions = match_braces(&range, listing)?;
+    right_instructions(&range, listing, &regions)
+}
+
+/// A range's blocks with the number of each block's first instruction.
+struct Range<'a> {
+    record: &'a Record,
+    from: usize,
+    to: usize,
+    first: Vec<usize>,
+}
+
+impl Range<'_> {
+    fn new(record: &Record, from: usize, to: usize) -> Range<'_> {
+        let mut first = vec![0];
+        for b in &record.blocks {
+            first.push(first[first.len() - 1] + b.insns.len());
+        }
+        Range { record, from, to, first }
+    }
+
+    fn place_of(&self, insn: usize) -> usize {
+        self.first.partition_point(|&f| f <= insn) - 1
+    }
+
+    fn insn(&self, n: usize) -> &Insn {
+        let place = self.place_of(n);
+        &self.record.blocks[place].insns[n - self.first[place]]
+    }
+}
+
+fn few_lines(range: &Range, listing: &Listing) -> Result<(), String> {
+    let most = range.first[range.to] - range.first[range.from] + 2 * (range.to - range.from);
+    match listing.lines() <= most {
+        true => Ok(()),
+        false => Err(format!("{} lines, where {most} are the most", listing.lines())),
+    }
+}
+
+/// The do-loops and if-regions of a listing: first place, and the place after the last.
+#[derive(Default)]
+struct Regions {
+    loops: Vec<(usize, usize)>,
+    ifs: Vec<(usize, usize)>,
+}
+
+/// Walks the lines with a stack of what is open. A line in n regions has the starting indent plus n.
+fn match_braces(range: &Range, listing: &Listing) -> Result<Regions, String> {
+    let mut open: Vec<Origin> = Vec::new();
+    let mut found = Regions::default();
+    for (line, origin) in listing.origins.iter().enumerate() {
+        let at = |why: &str| format!("line {line}: {why}");
+        match (origin, open.last().copied()) {
+            (Origin::Close, Some(Origin::Open(n))) => {
+                open.pop();
+                found.ifs.push((range.place_of(n) + 1, target_place(range, n).ok_or_else(|| at("a region without a target"))?));
+            }
+            (Origin::While(n), Some(Origin::Do(place))) => {
+                open.pop();
+                found.loops.push((place, range.place_of(*n) + 1));
+            }
+            (Origin::Close | Origin::While(_), _) => return Err(at("closes nothing that is open")),
+            _ => {}
+        }
+        let depth = range.record.indent as usize + open.len();
+        let indent = (listing.line_marks[line] % 256) as usize;
+        let expected = if matches!(origin, Origin::Label(_)) { depth.saturating_sub(1) } else { depth };
+        if indent != expected {
+            return Err(at(&format!("indent {indent} in place of {expected}")));
+        }
+        if matches!(origin, Origin::Open(_) | Origin::Do(_)) {
+            open.push(*origin);
+        }
+    }
+    match open.is_empty() {
+        true => Ok(found),
+        false => Err(format!("{} regions stay open", open.len())),
+    }
+}
+
+fn target_place(range: &Range, n: usize) -> Option<usize> {
+    let target = range.insn(n).operands[0].number;
+    range.record.blocks.iter().position(|b| b.start == target)
+}
+
+/// The lines of instructions are those that are not silent, each once, by place and as recorded.
+fn right_instructions(range: &Range, listing: &Listing, regions: &Regions) -> Result<(), String> {
+    let written: Vec<usize> = listing
+        .origins
+        .iter()
+        .filter_map(|o| match o {
+            Origin::Open(n) | Origin::While(n) | Origin::Instruction(n) => Some(*n),
+            _ => None,
+        })
+        .collect();
+    let expected: Vec<usize> = (range.from..range.to)
+        .flat_map(|p| (range.first[p]..range.first[p + 1]).filter(move |&n| !is_silent(range, regions, p, n)))
+        .collect();
+    match written == expected {
+        true => Ok(()),
+        false => Err(format!("lines for instructions {written:?}, where {expected:?} are not silent")),
+    }
+}
+
+fn is_silent(range: &Range, regions: &Regions, place: usize, n: usize) -> bool {
+    let insn = range.insn(n);
+    let last = n + 1 == range.first[place + 1];
+    let in_loop = regions.loops.iter().find(|(a, b)| (*a..*b).contains(&place));
+    let near = insn.operands[0].kind == kind::NEAR;
+    if last && insn.condition != 0 && (near || in_loop.is_some_and(|l| l.1 == place + 1)) {
+        return false;
+    }
+    if insn.mnemonic == m::JMP && near {
+        return !last || in_loop.is_some() || goes_on(range, regions, place, insn);
+    }
+    insn.skip == 1 || is_noise(insn, range.record.frame) || matches!(insn.mnemonic, m::CMP | m::TEST | m::PUSH | 32..=35)
+}
+
+/// A jump to the next block when that lies in the range being written.
+fn goes_on(range: &Range, regions: &Regions, place: usize, jump: &Insn) -> bool {
+    let ends = regions.ifs.iter().filter(|(a, b)| (*a..*b).contains(&place)).map(|l| l.1);
+    let end = ends.min().unwrap_or(range.to);
+    place + 1 < end && range.record.blocks[place + 1].start == jump.operands[0].number
+}
+
+/// `is_prologue_noise`, from the record's numbers.
+fn is_noise(insn: &Insn, frame: u16) -> bool {
+    let stack = |n: u8| n == r::RSP || n == r::ESP;
+    let register = |k: usize| (insn.operands[k].kind == kind::REGISTER).then_some(insn.operands[k].register);
+    let to = register(0);
+    match insn.mnemonic {
+        m::PUSH | m::POP => to.is_some_and(is_saved),
+        m::SUB | m::ADD => to.is_some_and(stack) && register(1).is_none(),
+        m::MOV => {
+            let copies = to.is_some_and(|n| n != 0 && u16::from(n) == frame) && register(1).is_some_and(stack);
+            copies || to.is_some_and(stack)
+        }
+        m::LEA => to.is_some_and(stack),
+        41..=45 => true,
+        _ => false,
+    }
+}
+
+/// bx bp si di r12 to r15 at every width.
+fn is_saved(n: u8) -> bool {
+    (1..=5).contains(&(n / 16)) && matches!(n % 16, 3 | 5 | 6 | 7 | 12..=15)
+}

@@ -1,0 +1,21 @@
+//! What the port is compared with: the unchanged Rust emitter over a record, and the questions of
+//! document 01 written a second time.
+
+pub mod compare;
+pub mod damage;
+pub mod demand3;
+pub mod gen;
+pub mod listing;
+pub mod pieces;
+pub mod questions;
+pub mod record;
+pub mod rng;
+
+mod binary;
+mod emitter;
+mod iced;
+mod model;
+mod protos;
+
+#[cfg(test)]
+mod tests;

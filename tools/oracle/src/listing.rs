@@ -1,0 +1,153 @@
+//! The six lists of document 01, made from the Rust's lines.
+
+use std::cell::Cell;
+use std::panic::{catch_unwind, AssertUnwindSafe};
+
+use crate::emitter::{self, PseudoLine};
+use crate::model::TokenKind;
+use crate::record::Record;
+
+/// The lists of an accepted call.
+#[derive(Clone, Debug, Default, PartialEq, Eq)]
+pub struct Listing {
+    pub text: Vec<u8>,
+    pub token_ends: Vec<u32>,
+    pub token_kinds: Vec<u8>,
+    pub line_addresses: Vec<u64>,
+    pub line_marks: Vec<u16>,
+    pub line_ends: Vec<u32>,
+    /// What each line was written for; not a list of document 01.
+    pub origins: Vec<Origin>,
+}
+
+/// What a line was written for: a block by its place, an instruction by its number.
+#[derive(Clone, Copy, Debug, PartialEq, Eq)]
+pub enum Origin {
+    Label(usize),
+    Do(usize),
+    Close,
+    Open(usize),
+    While(usize),
+    Instruction(usize),
+}
+
+/// The Rust's listing of an accepted record's range, or the message of its panic.
+pub fn list(bytes: &[u8], from: usize, to: usize) -> Result<Listing, String> {
+    list_record(&Record::parse(bytes), from, to)
+}
+
+pub fn list_record(record: &Record, from: usize, to: usize) -> Result<Listing, String> {
+    QUIET.set(true);
+    let run = catch_unwind(AssertUnwindSafe(|| emitter::run(record, from, to)));
+    QUIET.set(false);
+    match run {
+        Ok((lines, tag)) => Ok(lists(record, &lines, tag)),
+        Err(e) => Err(message(e)),
+    }
+}
+
+thread_local! {
+    /// The Rust runs: its panics are answers and print nothing.
+    static QUIET: Cell<bool> = const { Cell::new(false) };
+}
+
+/// Keeps the Rust's panics from printing; those of the oracle itself still do.
+pub fn report_panics_as_answers() {
+    let usual = std::panic::take_hook();
+    std::panic::set_hook(Box::new(move |info| {
+        if !QUIET.get() {
+            usual(info);
+        }
+    }));
+}
+
+fn message(e: Box<dyn std::any::Any + Send>) -> String {
+    match e.downcast::<String>() {
+        Ok(s) => *s,
+        Err(e) => e.downcast_ref::<&str>().unwrap_or(&"panic").to_string(),
+    }
+}
+
+fn lists(record: &Record, lines: &[PseudoLine], tag: u64) -> Listing {
+    let addresses: Vec<u64> = record.insns().map(|i| i.address).collect();
+    let mut out = Listing::default();
+    for line in lines {
+        for token in &line.tokens {
+            out.text.extend(token.t.as_bytes());
+            out.token_ends.push(out.text.len() as u32);
+            out.token_kinds.push(token.k as u8);
+        }
+        let origin = origin(record, line, tag);
+        out.line_addresses.push(match origin {
+            Origin::Label(place) | Origin::Do(place) => record.blocks[place].start,
+            Origin::Open(n) | Origin::While(n) | Origin::Instruction(n) => addresses[n],
+            Origin::Close => 0,
+        });
+        out.line_marks.push(line.indent as u16 + if line.address.is_some() { 256 } else { 0 });
+        out.line_ends.push(out.token_ends.len() as u32);
+        out.origins.push(origin);
+    }
+    out
+}
+
+/// Only a lone closing brace has no address, and only lines of instructions have a tagged one. Names
+/// may have any text, so kinds are asked too.
+fn origin(record: &Record, line: &PseudoLine, tag: u64) -> Origin {
+    let Some(address) = line.address else { return Origin::Close };
+    let first = &line.tokens[0];
+    let last = &line.tokens[line.tokens.len() - 1];
+    if address >> 48 != tag >> 48 {
+        let place = record.blocks.iter().position(|b| b.start == address).expect("a block's line");
+        return if first.k == TokenKind::Keyword { Origin::Do(place) } else { Origin::Label(place) };
+    }
+    let n = (address - tag) as usize;
+    match (first.k, first.t.as_str()) {
+        (TokenKind::Punct, "} ") => Origin::While(n),
+        (TokenKind::Keyword, "if") if last.t.ends_with('{') => Origin::Open(n),
+        _ => Origin::Instruction(n),
+    }
+}
+
+impl Listing {
+    pub fn lines(&self) -> usize {
+        self.line_ends.len()
+    }
+
+    /// The text of a line.
+    pub fn line(&self, n: usize) -> &[u8] {
+        let end = |tokens: usize| if tokens == 0 { 0 } else { self.token_ends[tokens - 1] as usize };
+        let first = if n == 0 { 0 } else { self.line_ends[n - 1] as usize };
+        &self.text[end(first)..end(self.line_ends[n] as usize)]
+    }
+
+    /// The first list that differs, in words. Origins are not compared.
+    pub fn difference(&self, other: &Listing) -> Option<String> {
+        first_apart("text", &self.text, &other.text)
+            .or_else(|| first_apart("token ends", &self.token_ends, &other.token_ends))
+            .or_else(|| first_apart("token kinds", &self.token_kinds, &other.token_kinds))
+            .or_else(|| first_apart("line addresses", &self.line_addresses, &other.line_addresses))
+            .or_else(|| first_apart("line marks", &self.line_marks, &other.line_marks))
+            .or_else(|| first_apart("line ends", &self.line_ends, &other.line_ends))
+    }
+
+    /// What the program `listing` prints.
+    pub fn print(&self) -> Vec<u8> {
+        let mut out = format!("lines={}\n", self.lines()).into_bytes();
+        for n in 0..self.lines() {
+            let mark = self.line_marks[n];
+            match mark >= 256 {
+                true => out.extend(format!("{:016X} ", self.line_addresses[n]).as_bytes()),
+                false => out.extend(b"---------------- "),
+            }
+            out.extend(std::iter::repeat_n(b' ', 2 * (mark % 256) as usize));
+            out.extend(self.line(n));
+            out.push(b'\n');
+        }
+        out
+    }
+}
+
+fn first_apart<T: PartialEq + std::fmt::Debug>(what: &str, a: &[T], b: &[T]) -> Option<String> {
+    let at = (0..a.len().max(b.len())).find(|&n| a.get(n) != b.get(n))?;
+    Some(format!("{what} differ at {at}: {:?} and {:?}, lengths {} and {}", a.get(at), b.get(at), a.len(), b.len()))
+}

@@ -1,0 +1,70 @@
+//! The command line.
+
+use std::io::{Read, Write};
+use std::process::ExitCode;
+
+use oracle::{compare, listing, questions, record};
+
+const USAGE: &str = "usage: oracle list FILE [FROM TO]     the Rust's listing of a record (- for standard input)
+       oracle example                the record of document 01's example, to standard output
+       oracle questions SEED COUNT   compare the port's questions 1 to 11
+       oracle sanity SEED COUNT      generated records against the questions, the Rust and demand 3
+       oracle record SEED            a generated record, to standard output";
+
+fn main() -> ExitCode {
+    listing::report_panics_as_answers();
+    let words: Vec<String> = std::env::args().skip(1).collect();
+    let words: Vec<&str> = words.iter().map(|w| w.as_str()).collect();
+    let done = match words[..] {
+        ["list", file] => list(file, None),
+        ["list", file, from, to] => number(from).and_then(|f| number(to).and_then(|t| list(file, Some((f, t))))),
+        ["example"] => write(&record::example().to_bytes()),
+        ["record", seed] => number(seed).and_then(|s| write(&compare::record(s as u64))),
+        [what, seed, count] => compare(what, seed, count),
+        _ => Err(USAGE.to_string()),
+    };
+    match done {
+        Ok(true) => ExitCode::SUCCESS,
+        Ok(false) => ExitCode::FAILURE,
+        Err(why) => {
+            eprintln!("{why}");
+            ExitCode::from(2)
+        }
+    }
+}
+
+fn number(word: &str) -> Result<usize, String> {
+    word.parse().map_err(|_| format!("{word} is not a number"))
+}
+
+fn compare(what: &str, seed: &str, count: &str) -> Result<bool, String> {
+    let found = compare::COMPARISONS.iter().find(|(name, _)| *name == what);
+    let (_, run) = found.ok_or_else(|| USAGE.to_string())?;
+    run(number(seed)? as u64, number(count)?)
+}
+
+fn write(bytes: &[u8]) -> Result<bool, String> {
+    std::io::stdout().write_all(bytes).map_err(|e| e.to_string())?;
+    Ok(true)
+}
+
+fn read(file: &str) -> Result<Vec<u8>, String> {
+    let mut bytes = Vec::new();
+    let read = match file {
+        "-" => std::io::stdin().read_to_end(&mut bytes),
+        _ => std::fs::File::open(file).and_then(|mut f| f.read_to_end(&mut bytes)),
+    };
+    read.map_err(|e| format!("{file}: {e}"))?;
+    Ok(bytes)
+}
+
+/// The whole range unless one is given; `no N` for a refused record, as the program `listing` does.
+fn list(file: &str, range: Option<(usize, usize)>) -> Result<bool, String> {
+    let bytes = read(file)?;
+    let blocks = if bytes.len() >= record::HEADER { record::Layout::of(&bytes).b } else { 0 };
+    let (from, to) = range.unwrap_or((0, blocks));
+    match questions::first_no(&bytes, from, to) {
+        0 => write(&listing::list(&bytes, from, to).map_err(|e| format!("the Rust panics: {e}"))?.print()),
+        n => write(format!("no {n}\n").as_bytes()),
+    }
+}

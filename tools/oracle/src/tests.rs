@@ -1,0 +1,223 @@
+//! Document 01's example and cases, on the unchanged Rust.
+
+use crate::listing::list;
+use crate::record::{edge, example, kind, mnemonic as m, name, register as r, Block, Edge, Entry, Insn, Operand, Record};
+
+const EXAMPLE: &str = "lines=5
+0000000000001002   if (eax == 0) {
+0000000000001004     eax = 5;
+----------------   }
+0000000000001010 loc_1010:
+0000000000001010   return;
+";
+
+fn reg(register: u8) -> Operand {
+    Operand { kind: kind::REGISTER, register, number: 0 }
+}
+
+fn imm(kind: u8, number: u64) -> Operand {
+    Operand { kind, register: 0, number }
+}
+
+const MEM: Operand = Operand { kind: kind::MEMORY, register: 0, number: 0 };
+
+fn insn(mnemonic: u8, operands: &[Operand]) -> Insn {
+    let mut i = Insn { mnemonic, count: operands.len() as u8, ..Insn::default() };
+    i.operands[..operands.len()].copy_from_slice(operands);
+    i
+}
+
+fn jcc(text: &str, condition: u8, target: u64) -> Insn {
+    Insn { condition, name: name(text), ..insn(m::OTHER, &[imm(kind::NEAR, target)]) }
+}
+
+fn one_block(insns: Vec<Insn>) -> Record {
+    Record { bits: 64, convention: 1, blocks: vec![Block { start: 0x1000, insns, ..Block::default() }], ..Record::default() }
+}
+
+/// The lines of a record without their addresses.
+fn lines(record: &Record) -> Vec<String> {
+    let bytes = record.to_bytes();
+    let to = record.blocks.len();
+    assert_eq!(crate::questions::first_no(&bytes, 0, to), 0);
+    let listing = list(&bytes, 0, to).unwrap();
+    crate::demand3::check(record, 0, to, &listing).unwrap();
+    (0..listing.lines()).map(|n| String::from_utf8(listing.line(n).to_vec()).unwrap()).collect()
+}
+
+/// The text of `eax = SOURCE;`.
+fn source(insn: Insn) -> String {
+    source_in(one_block(vec![]), insn)
+}
+
+fn source_in(mut record: Record, insn: Insn) -> String {
+    record.blocks[0].insns = vec![insn];
+    let line = lines(&record).remove(0);
+    line.strip_prefix("eax = ").unwrap().strip_suffix(';').unwrap().to_string()
+}
+
+fn mov_imm(kind: u8, number: u64) -> String {
+    source(insn(m::MOV, &[reg(r::EAX), imm(kind, number)]))
+}
+
+fn mov_mem(base: u8, disp: u64, size: u16) -> Insn {
+    Insn { base, memory: disp, size, ..insn(m::MOV, &[reg(r::EAX), MEM]) }
+}
+
+#[test]
+fn worked_example() {
+    let bytes = example().to_bytes();
+    assert_eq!(crate::questions::first_no(&bytes, 0, 3), 0);
+    assert_eq!(String::from_utf8(list(&bytes, 0, 3).unwrap().print()).unwrap(), EXAMPLE);
+}
+
+#[test]
+fn lists_of_the_example() {
+    let listing = list(&example().to_bytes(), 0, 3).unwrap();
+    assert_eq!(listing.line_addresses, [0x1002, 0x1004, 0, 0x1010, 0x1010]);
+    assert_eq!(listing.line_marks, [257, 258, 1, 256, 257]);
+    assert_eq!(listing.line_ends, [6, 10, 11, 13, 15]);
+    assert_eq!(listing.token_kinds, [3, 6, 1, 6, 2, 6, 1, 6, 2, 6, 6, 4, 6, 3, 6]);
+    assert_eq!(listing.token_ends.last(), Some(&(listing.text.len() as u32)));
+}
+
+#[test]
+fn case_a_numbers() {
+    assert_eq!([9, 10].map(|n| mov_imm(6, n)), ["9", "0xa"]);
+    assert_eq!([-9i64, -10].map(|n| mov_imm(6, n as u64)), ["-9", "-0xa"]);
+}
+
+#[test]
+fn case_b_kind_5() {
+    assert_eq!(mov_imm(5, 0xFFFFF000), "-0x1000");
+    assert_eq!(mov_imm(5, 0xFFFFEFFF), "0xffffefff");
+}
+
+#[test]
+fn case_c_kind_7() {
+    assert_eq!(mov_imm(7, 0xFFFF), "0xffff");
+}
+
+#[test]
+fn case_d_base_index() {
+    let i = Insn { index: r::RCX, scale: 4, ..mov_mem(r::RAX, 8, 4) };
+    assert_eq!(source(i), "*(uint32_t *)((rax + (rcx * 4)) + 8)");
+}
+
+#[test]
+fn case_e_stack() {
+    assert_eq!(source(mov_mem(r::RSP, 0x20, 4)), "var_20");
+    assert_eq!(source(mov_mem(r::RSP, -8i64 as u64, 8)), "*(uint64_t *)(rsp - 8)");
+}
+
+#[test]
+fn case_f_shifted_frame() {
+    let record = Record { frame: r::RBP.into(), shift: 0x20, shift_given: 1, ..one_block(vec![]) };
+    assert_eq!(source_in(record, mov_mem(r::RBP, -0x30i64 as u64, 8)), "*(uint64_t *)(rsp - 0x30)");
+}
+
+#[test]
+fn case_g_frame_of_32_bits() {
+    let record = Record { bits: 32, frame: r::EBP.into(), ..one_block(vec![]) };
+    assert_eq!(source_in(record, mov_mem(r::EBP, 0xFFFFFFF8, 4)), "arg_FFFFFFF8");
+}
+
+#[test]
+fn case_h_unsigned() {
+    let record = one_block(vec![insn(m::CMP, &[reg(r::EAX), imm(5, 5)]), jcc("jb", 3, 0x2000)]);
+    assert_eq!(lines(&record), ["if ((unsigned)eax < 5) goto loc_2000;"]);
+}
+
+#[test]
+fn case_i_backslash() {
+    let record = Record {
+        atlas: vec![Entry { address: 0x5000, kind: 1, text: b"\\".to_vec() }],
+        spans: vec![(0x5000, 0x5000)],
+        ..one_block(vec![])
+    };
+    assert_eq!(source_in(record, insn(m::MOV, &[reg(r::EAX), imm(5, 0x5000)])), "\"\\\\\"");
+}
+
+#[test]
+fn case_j_self_loop() {
+    let mut record = one_block(vec![insn(m::DEC, &[reg(r::EAX)]), jcc("jne", 6, 0x1000)]);
+    record.blocks[0].edges = vec![Edge { to: 0x1000, kind: edge::TRUE }];
+    assert_eq!(lines(&record), ["eax--;", "if (eax != 0) goto loc_1000;"]);
+}
+
+#[test]
+fn settled_readings() {
+    // 2 and 7: mnemonic 0 is other, whatever its name.
+    let sete = Insn { condition: 5, name: name("sete"), ..insn(m::OTHER, &[reg(r::AL)]) };
+    let clc = Insn { name: name("clc"), ..insn(m::OTHER, &[]) };
+    assert_eq!(lines(&one_block(vec![sete, clc])), ["__asm { sete al }", "__asm { clc  }"]);
+    // 3: a near branch reads its own operand's number.
+    let two = insn(m::XOR, &[imm(kind::NEAR, 0x2000), imm(kind::NEAR, 0x3000)]);
+    assert_eq!(lines(&one_block(vec![two])), ["loc_2000 ^= loc_3000;"]);
+    // 1: skip marks go by instruction.
+    let skipped = Insn { skip: 1, ..insn(m::DEC, &[reg(r::EAX)]) };
+    assert_eq!(lines(&one_block(vec![skipped, insn(m::INC, &[reg(r::EAX)])])), ["eax++;"]);
+    // 11: slots of 32 bits do not wrap.
+    let esp = Insn { memory: 0xFFFFFFF8, ..mov_mem(r::ESP, 0, 4) };
+    assert_eq!(source_in(Record { bits: 32, ..one_block(vec![]) }, esp), "var_FFFFFFF8");
+    // 12: kinds 5 and 8 test the low 32 bits.
+    assert_eq!(mov_imm(8, 0x1_FFFF_FFFF), "-1");
+    assert_eq!(mov_imm(8, 0xFFFF_FFFF_FFFF_EFFF), "0xffffffffffffefff");
+}
+
+#[test]
+fn registers_are_spelled_as_listed() {
+    let spell = |n: u8| source(insn(m::MOV, &[reg(r::EAX), reg(n)]));
+    let some = [0, 16, 20, 24, 32, 35, 48, 56, 64, 72, 80, 88, 95, 96, 97, 112, 117, 128, 143, 144, 159];
+    let names = [
+        "none", "al", "spl", "r8l", "ah", "bh", "ax", "r8w", "eax", "r8d", "rax", "r8", "r15", "eip", "rip", "es", "gs", "xmm0",
+        "xmm15", "ymm0", "ymm15",
+    ];
+    assert_eq!(some.map(spell), names);
+}
+
+#[test]
+fn pieces_of_the_example() {
+    use crate::pieces::{addresses, conditions, operands};
+    let text = |t: &crate::pieces::Tokens| String::from_utf8(t.text.clone()).unwrap();
+    let record = example();
+    assert_eq!(operands(&record)[2].each_ref().map(text), ["eax", "5", "none", "none", "none"]);
+    assert_eq!(text(&addresses(&record)[0]), "&unk_0");
+    assert_eq!(
+        conditions(&record, 6).iter().map(text).collect::<Vec<_>>(),
+        ["__flags_ne", "eax != 0", "__flags_ne", "__flags_ne"]
+    );
+}
+
+#[test]
+fn generated_records_are_sane() {
+    assert_eq!(crate::compare::sanity(11, 2000), Ok(true));
+}
+
+/// The first no after a change of the small record.
+fn no_after(change: impl FnOnce(&mut Record)) -> u8 {
+    let mut record = crate::gen::small();
+    change(&mut record);
+    crate::questions::first_no(&record.to_bytes(), 0, 3)
+}
+
+#[test]
+fn questions_in_order() {
+    assert_eq!(no_after(|_| ()), 0);
+    assert_eq!(crate::questions::first_no(&[0; 23], 9, 0), 1);
+    assert_eq!(no_after(|r| r.shift_given = 0), 2);
+    assert_eq!(no_after(|r| r.indent = 56), 3);
+    let mut longer = crate::gen::small().to_bytes();
+    longer.push(0);
+    assert_eq!(crate::questions::first_no(&longer, 9, 0), 4);
+    assert_eq!(no_after(|r| r.blocks[2].label = 2), 5);
+    assert_eq!(no_after(|r| r.blocks[2].start = 0x1000), 6);
+    assert_eq!(no_after(|r| r.blocks[0].edges[1].kind = 5), 7);
+    assert_eq!(no_after(|r| r.frame = 98), 8);
+    assert_eq!(no_after(|r| r.blocks[0].insns[0].name[10] = b'a'), 8);
+    assert_eq!(no_after(|r| r.atlas[1].address = 0x2000), 9);
+    assert_eq!(no_after(|r| r.atlas[2].text = vec![]), 9);
+    assert_eq!(no_after(|r| r.spans[0] = (1, 0)), 10);
+    assert_eq!(crate::questions::first_no(&crate::gen::small().to_bytes(), 2, 1), 11);
+    assert_eq!(crate::questions::first_no(&crate::gen::small().to_bytes(), 3, 4), 11);
+}
