@@ -1,13 +1,13 @@
--- Laws of a test and of a sum over the numbers below n, as a loop that counts up by one asks them.
+-- Laws of tests and of a sum over the numbers below n, as a loop that counts up by one asks them.
 -- Each is the definition at one number more.
 use mathlib.Core.Path.{_≡_, refl}
-use mathlib.Core.Bool.{Bool, true, false, _&&_, and-false}
+use mathlib.Core.Bool.{Bool, true, false, _&&_, _||_, and-false, or-true}
 use Prim.Native.Nat.{ℕ, zero, suc, _+_, _<_}
 use native.Mathlib.Numerals.{add-one}
 use native.Mathlib.Nat.{not-suc-le-zero}
 use native.Mathlib.Decide.{ℕ-discrete}
 use native.Mathlib.Omega.{arith}
-use Rattle.lists.specs.Choice.{allBelow, sumBelow}
+use Rattle.lists.specs.Choice.{allBelow, anyBelow, sumBelow}
 
 pub all-more : (p : ℕ → Bool) (i : ℕ) → allBelow p (i + 1) ≡ (allBelow p i && p i)
 all-more p i = rw add-one
@@ -27,3 +27,19 @@ all-fails p (suc n) i h e = go (ℕ-discrete i n) (all-fails p n i)
 -- one more test that passes
 pub all-goes-on : (p : ℕ → Bool) (i : ℕ) → allBelow p i ≡ true → p i ≡ true → allBelow p (i + 1) ≡ true
 all-goes-on p i h e = simp (all-more, h, e)
+
+pub any-more : (p : ℕ → Bool) (i : ℕ) → anyBelow p (i + 1) ≡ (anyBelow p i || p i)
+any-more p i = rw add-one
+
+-- one test that passes below n
+pub any-found : (p : ℕ → Bool) (n i : ℕ) → i < n → p i ≡ true → anyBelow p n ≡ true
+any-found p zero i h e = absurd (not-suc-le-zero h)
+any-found p (suc n) i h e = go (ℕ-discrete i n) (any-found p n i)
+  where
+    go : Dec (i ≡ n) → (i < n → p i ≡ true → anyBelow p n ≡ true) → (anyBelow p n || p n) ≡ true
+    go (yes q) ih = rw (← q, e) (or-true (anyBelow p i))
+    go (no q) ih = rw (ih (omega arith) e)
+
+-- one more test that fails
+pub any-goes-on : (p : ℕ → Bool) (i : ℕ) → anyBelow p i ≡ false → p i ≡ false → anyBelow p (i + 1) ≡ false
+any-goes-on p i h e = simp (any-more, h, e)

@@ -1,0 +1,4 @@
+pub mod Flow
+pub mod Shape
+pub mod Plan
+pub mod Demand

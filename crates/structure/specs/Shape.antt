@@ -1,0 +1,43 @@
+-- What stands at a place of a range: a do-loop, an if-region, or a plain block.
+use Prim.Native.Nat.{ℕ, zero, suc, _+_, _-_}
+use mathlib.Core.List.{List}
+use mathlib.Core.Bool.{Bool, not, _&&_}
+use lib.Dec.{ltb, leb, eqb}
+use Rattle.lists.specs.Choice.{pick}
+use Rattle.structure.specs.Flow.{endingIn, branchTo, closesLoop, singleEntry, escapes}
+use Rattle.structure.specs.declared.shape.Found.{Found}
+use Rattle.structure.specs.declared.shape.Found.the-variants.{At, Nothing}
+use Rattle.structure.specs.declared.shape.Shape.{Shape}
+use Rattle.structure.specs.declared.shape.Shape.the-variants.{Loop, Region, Plain}
+
+-- the last of the n numbers from i on that passes the test
+unfoldable pub lastFrom : (ℕ → Bool) → ℕ → ℕ → Found
+lastFrom p i zero = Nothing
+lastFrom p i (suc n) = pick (p (i + n)) (At (i + n)) (lastFrom p i n)
+
+module _ (blocks edges starts targets : List ℕ) (B : ℕ) where
+  -- "At place i the last j from i on, before the end, is sought whose block has a True edge to i's start .."
+  unfoldable pub lastLoop : ℕ → ℕ → Found
+  lastLoop i to = lastFrom (closesLoop blocks edges i) i (to - i)
+
+  -- "An if-region needs a last instruction with condition and near branch to place t with i + 1 < t ≤ the range's end, the
+  -- same entry rule for i+1..t-1, and no edge from it to an address below its first start, the target excepted."
+  unfoldable pub opensRegion : ℕ → ℕ → Bool
+  opensRegion i to =
+      let t = branchTo blocks i in
+      eqb (endingIn blocks i) 2
+      && ltb (i + 1) t && leb t to
+      && singleEntry blocks edges B (i + 1) t
+      && not (escapes blocks edges starts targets (i + 1) t t)
+
+  unfoldable pub regionAt : ℕ → ℕ → Shape
+  regionAt i to = pick (opensRegion i to) (Region (branchTo blocks i)) Plain
+
+  -- "A do-loop is written if j > i and no block outside i..j has an edge to an inside block other than i." No shorter loop is
+  -- tried.
+  abbrev pub loopAt : Found → ℕ → ℕ → Shape
+  loopAt Nothing i to = regionAt i to
+  loopAt (At j) i to = pick (ltb i j && singleEntry blocks edges B i (j + 1)) (Loop j) (regionAt i to)
+
+  unfoldable pub shapeAt : ℕ → ℕ → Shape
+  shapeAt i to = loopAt (lastLoop i to) i to

@@ -1,0 +1,2 @@
+// The structure of a range: loops, regions, labels and jumps, as a plan of lines with no text.
+pub mod shape;
