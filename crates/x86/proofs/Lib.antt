@@ -3,3 +3,6 @@ pub mod Cmp
 pub mod Test
 pub mod Negate
 pub mod Rule
+pub mod Columns
+pub mod Past
+pub mod Taken

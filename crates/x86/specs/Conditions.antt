@@ -49,17 +49,26 @@ operatorText r = getD relations r none .text
 unfoldable pub related : ℕ → ℤ → ℤ → Bool
 related r x y = getD relations r none .means x y
 
--- "after CMP, for e ne b ae be a l ge le g": conditions 0, o no b ae, e ne be a, s ns p np, l ge le g
-unfoldable pub relationAfterCmp : ℕ → ℕ
-relationAfterCmp k = getD (6 ∷ 6 ∷ 6 ∷ 2 ∷ 3 ∷ 0 ∷ 1 ∷ 4 ∷ 5 ∷ 6 ∷ 6 ∷ 6 ∷ 6 ∷ 2 ∷ 3 ∷ 4 ∷ 5 ∷ []) k 6
+-- "after CMP, for e ne b ae be a l ge le g": by condition, none, o no b ae, e ne be a, s ns p np, l ge le g
+abbrev pub cmpRelations : List ℕ
+cmpRelations = 6 ∷ 6 ∷ 6 ∷ 2 ∷ 3 ∷ 0 ∷ 1 ∷ 4 ∷ 5 ∷ 6 ∷ 6 ∷ 6 ∷ 6 ∷ 2 ∷ 3 ∷ 4 ∷ 5 ∷ []
 
 -- "after TEST the same, read signed, for e ne s ns l ge le g"
-unfoldable pub relationAfterTest : ℕ → ℕ
-relationAfterTest k = getD (6 ∷ 6 ∷ 6 ∷ 6 ∷ 6 ∷ 0 ∷ 1 ∷ 6 ∷ 6 ∷ 2 ∷ 3 ∷ 6 ∷ 6 ∷ 2 ∷ 3 ∷ 4 ∷ 5 ∷ []) k 6
+abbrev pub testRelations : List ℕ
+testRelations = 6 ∷ 6 ∷ 6 ∷ 6 ∷ 6 ∷ 0 ∷ 1 ∷ 6 ∷ 6 ∷ 2 ∷ 3 ∷ 6 ∷ 6 ∷ 2 ∷ 3 ∷ 4 ∷ 5 ∷ []
 
 -- "After the other writers e ne s ns print the first operand against 0"
+abbrev pub otherRelations : List ℕ
+otherRelations = 6 ∷ 6 ∷ 6 ∷ 6 ∷ 6 ∷ 0 ∷ 1 ∷ 6 ∷ 6 ∷ 2 ∷ 3 ∷ 6 ∷ 6 ∷ 6 ∷ 6 ∷ 6 ∷ 6 ∷ []
+
+unfoldable pub relationAfterCmp : ℕ → ℕ
+relationAfterCmp k = getD cmpRelations k 6
+
+unfoldable pub relationAfterTest : ℕ → ℕ
+relationAfterTest k = getD testRelations k 6
+
 unfoldable pub relationAfterOther : ℕ → ℕ
-relationAfterOther k = getD (6 ∷ 6 ∷ 6 ∷ 6 ∷ 6 ∷ 0 ∷ 1 ∷ 6 ∷ 6 ∷ 2 ∷ 3 ∷ []) k 6
+relationAfterOther k = getD otherRelations k 6
 
 -- "unsigned for b ae be a"
 unfoldable pub printsUnsigned : ℕ → Bool

@@ -5,3 +5,4 @@ pub mod Conditions
 pub mod Flags
 pub mod FlagRule
 pub mod Sizes
+pub mod Table

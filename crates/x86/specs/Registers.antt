@@ -53,9 +53,13 @@ qword i = 80 + i
 unfoldable pub fullRegister : ℕ → ℕ
 fullRegister r = pick (leb 1 (r / 16) && leb (r / 16) 5) (qword (r % 16)) (pick (eqb (r / 16) 6) 97 r)
 
--- the width in bytes, by class; eip has 4, rip 8
+-- the width in bytes, by class
+abbrev pub classBytes : List ℕ
+classBytes = 0 ∷ 1 ∷ 1 ∷ 2 ∷ 4 ∷ 8 ∷ 8 ∷ 2 ∷ 16 ∷ 32 ∷ []
+
+-- eip, which is 96, has 4
 unfoldable pub registerSize : ℕ → ℕ
-registerSize r = pick (eqb r 96) 4 (getD (0 ∷ 1 ∷ 1 ∷ 2 ∷ 4 ∷ 8 ∷ 8 ∷ 2 ∷ 16 ∷ 32 ∷ []) (r / 16) 0)
+registerSize r = pick (eqb r 96) 4 (getD classBytes (r / 16) 0)
 
 -- the whole registers that a callee saves: rbx rbp rsi rdi r12 r13 r14 r15
 abbrev pub savedRegisters : List ℕ

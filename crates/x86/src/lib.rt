@@ -1,2 +1,5 @@
 // What document 01 and Intel's manual say of registers, mnemonics and conditions, by number.
+pub mod conditions;
+pub mod mnemonics;
 pub mod registers;
+pub mod table;
