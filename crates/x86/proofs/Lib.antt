@@ -6,3 +6,5 @@ pub mod Rule
 pub mod Columns
 pub mod Past
 pub mod Taken
+pub mod Written
+pub mod Positions

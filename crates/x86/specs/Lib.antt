@@ -6,3 +6,4 @@ pub mod Flags
 pub mod FlagRule
 pub mod Sizes
 pub mod Table
+pub mod Conventions
