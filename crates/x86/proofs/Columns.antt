@@ -10,7 +10,7 @@ use borrow.Author.Tests.{lt-ltb, le-ltb}
 use lib.Dec.{T, eqb, ltb, eqb→eq}
 use lib.ListN.{getD}
 use Rattle.lists.specs.Choice.{pick, allBelow}
-use Rattle.x86.specs.Conditions.{relationAfterCmp, relationAfterTest, relationAfterOther, printsUnsigned, negate}
+use Rattle.x86.specs.Conditions.{conditionNames, conditionName, relationAfterCmp, relationAfterTest, relationAfterOther, printsUnsigned, negate}
 use Rattle.x86.specs.Mnemonics.{mnemonicNames, mnemonicName, writesFlags}
 use Rattle.x86.specs.Registers.{registerNames, registerName, fullRegister, registerSize}
 use Rattle.x86.specs.Table.{isaBytes, bit, textAt}
@@ -93,7 +93,7 @@ module _ (t : List ℕ) (e : t ≡ isaBytes) where
   condition-other = column (λ k. 2018 + 8 * k) relationAfterOther (λ k. 6) 17 tt none-after-other t e
 
   pub condition-unsigned : (k : ℕ) → eqb (pick (ltb k 17) (getD t (2019 + 8 * k) 0) 0) 1 ≡ printsUnsigned k
-  unfolding isaBytes registerNames registerName mnemonicNames mnemonicName printsUnsigned
+  unfolding isaBytes registerNames registerName mnemonicNames mnemonicName conditionNames conditionName printsUnsigned
   condition-unsigned k =
       yes-column (printsUnsigned k)
       (column (λ k. 2019 + 8 * k) (λ k. bit (printsUnsigned k)) (λ k. 0) 17 tt (λ k h. ap bit (not-unsigned k h)) t e k)

@@ -1,13 +1,13 @@
 -- What the definitions say past the last register, mnemonic and condition: nothing, no, or the number itself.
 -- Each test of the class or the number fails there.
-use mathlib.Core.Path.{_≡_, refl}
-use mathlib.Core.Bool.{Bool, false, and-false}
-use mathlib.Core.List.{List, []}
+use mathlib.Core.Path.{_≡_}
+use mathlib.Core.Bool.{false, and-false}
+use mathlib.Core.List.{[]}
 use Prim.Native.Nat.{ℕ, _/_, _≤_}
 use native.Mathlib.Omega.{arith}
 use borrow.Author.Tests.{lt-ltb, lt-leb, ne-eqb}
 use lib.ListN.{List·getD-eq-default}
-use Rattle.x86.specs.Conditions.{cmpRelations, testRelations, otherRelations, relationAfterCmp, relationAfterTest, relationAfterOther, printsUnsigned, negate}
+use Rattle.x86.specs.Conditions.{conditionNames, conditionName, cmpRelations, testRelations, otherRelations, relationAfterCmp, relationAfterTest, relationAfterOther, printsUnsigned, negate}
 use Rattle.x86.specs.Mnemonics.{mnemonicNames, mnemonicName, writesFlags}
 use Rattle.x86.specs.Registers.{registerNames, registerName, fullRegister, classBytes, registerSize}
 
@@ -50,8 +50,8 @@ module _ (k : ℕ) (h : 17 ≤ k) where
   none-after-other = List·getD-eq-default otherRelations 6 h
 
   pub not-unsigned : printsUnsigned k ≡ false
-  unfolding printsUnsigned
-  not-unsigned = simp (ne-eqb k 3 (omega arith), ne-eqb k 4 (omega arith), ne-eqb k 7 (omega arith), ne-eqb k 8 (omega arith))
+  unfolding printsUnsigned conditionNames conditionName
+  not-unsigned = let e : conditionName k ≡ [] = List·getD-eq-default conditionNames [] h in rw e
 
   pub stays : negate k ≡ k
   unfolding negate

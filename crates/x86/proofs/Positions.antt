@@ -1,13 +1,13 @@
 -- The leading zeros of the packed positions give how many registers stand up to the last that is written.
 -- By induction on the list of registers: a number of k bits has one leading zero less than its half has of k - 1, unless it is 0.
 use mathlib.Core.Path.{_≡_, refl, ap, sym, _∙_}
-use mathlib.Core.Bool.{Bool, true, false, _||_, or-false}
+use mathlib.Core.Bool.{_||_}
 use mathlib.Core.List.{List, [], _∷_}
 use Prim.Native.Nat.{ℕ, zero, suc, _+_, _-_, _*_, _/_, _%_, _^_, _≤_, _<_}
 use native.Mathlib.Decide.{decLt}
 use native.Mathlib.Nat.{not-suc-le-zero, le-of-suc-le-suc}
 use native.Mathlib.Omega.{arith}
-use borrow.Author.Tests.{lt-ltb, le-ltb, eq-eqb, ne-eqb}
+use borrow.Author.Tests.{lt-ltb, le-ltb}
 use lib.Count.{leadingZeros, leading-of-zero, leading-le}
 use lib.Dec.{eqb, ltb}
 use lib.ListN.{length}

@@ -1,11 +1,12 @@
 -- The flag rule, whole: after CMP and after TEST each condition that is printed as a relation holds exactly when the relation does.
 -- One law a condition, put in the order of the conditions' numbers; a number that is printed as none is excluded.
-use mathlib.Core.Path.{_≡_, ap, sym, _∙_}
+use mathlib.Core.Path.{_≡_, refl, ap, sym, _∙_}
 use Prim.Native.Nat.{ℕ, zero, suc, _^_, _≤_, _<_}
 use native.Mathlib.Omega.{arith}
 use lib.Bits.{bitAnd, and-self}
+use lib.Dec.{ltb}
 use lib.IntN.{pos}
-use Rattle.x86.specs.Conditions.{relationAfterCmp, relationAfterTest, related, printsUnsigned}
+use Rattle.x86.specs.Conditions.{conditionNames, conditionName, among, relationAfterCmp, relationAfterTest, relationAfterOther, related, printsUnsigned}
 use Rattle.x86.specs.FlagRule.{FlagRule, Rule, readFor}
 use Rattle.x86.specs.Flags.{cmp, test, holds, signed}
 use Rattle.x86.proofs.Cmp.{cmp-same, cmp-unlike, cmp-e, cmp-ne, cmp-b, cmp-ae, cmp-be, cmp-a, cmp-l, cmp-ge, cmp-le, cmp-g}
@@ -52,7 +53,7 @@ module _ (w a b : ℕ) (h : 1 ≤ w) (ha : a < 2 ^ w) (hb : b < 2 ^ w) where
   Cmp k = relationAfterCmp k < 6 → related (relationAfterCmp k) (readFor k w a) (readFor k w b) ≡ holds k (cmp w a b)
 
   cmp-right : (k : ℕ) → Cmp k
-  unfolding relationAfterCmp related printsUnsigned
+  unfolding relationAfterCmp related printsUnsigned conditionNames conditionName
   cmp-right =
       each Cmp
       no
@@ -107,9 +108,43 @@ flag-rule w h =
       after-test-alike = test-alike w;
     }
 
+named-cmp : (k : ℕ) → ltb (relationAfterCmp k) 6 ≡ among k "e ne b ae be a l ge le g"
+unfolding relationAfterCmp conditionNames conditionName
+named-cmp =
+    each (λ k. ltb (relationAfterCmp k) 6 ≡ among k "e ne b ae be a l ge le g")
+    refl
+    refl refl refl refl
+    refl refl refl refl
+    refl refl refl refl
+    refl refl refl refl
+    (λ n. refl)
+
+named-test : (k : ℕ) → ltb (relationAfterTest k) 6 ≡ among k "e ne s ns l ge le g"
+unfolding relationAfterTest conditionNames conditionName
+named-test =
+    each (λ k. ltb (relationAfterTest k) 6 ≡ among k "e ne s ns l ge le g")
+    refl
+    refl refl refl refl
+    refl refl refl refl
+    refl refl refl refl
+    refl refl refl refl
+    (λ n. refl)
+
+named-other : (k : ℕ) → ltb (relationAfterOther k) 6 ≡ among k "e ne s ns"
+unfolding relationAfterOther conditionNames conditionName
+named-other =
+    each (λ k. ltb (relationAfterOther k) 6 ≡ among k "e ne s ns")
+    refl
+    refl refl refl refl
+    refl refl refl refl
+    refl refl refl refl
+    refl refl refl refl
+    (λ n. refl)
+
 pub rule : Rule
 rule =
     record {
+      printed = record { after-cmp = named-cmp; after-test = named-test; after-other = named-other };
       at-8 = flag-rule 8 (omega arith);
       at-16 = flag-rule 16 (omega arith);
       at-32 = flag-rule 32 (omega arith);

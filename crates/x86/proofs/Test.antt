@@ -2,14 +2,14 @@
 -- The AND is read as any number of w bits: zero and the sign are all that its flags say.
 use mathlib.Core.Path.{_≡_, refl, sym, ap, _∙_}
 use mathlib.Core.Bool.{Bool, true, false, not, _||_}
-use Prim.Native.Nat.{ℕ, _^_, _-_, _≤_, _<_}
-use native.Mathlib.Decide.{ℕ-discrete, decLt}
+use Prim.Native.Nat.{ℕ, _-_, _<_}
+use native.Mathlib.Decide.{decLt}
 use native.Mathlib.Omega.{arith}
-use borrow.Author.Tests.{lt-ltb, le-ltb, le-leb, lt-leb, eq-eqb, ne-eqb}
-use lib.Dec.{ltb, leb, eqb}
+use borrow.Author.Tests.{le-ltb, le-leb, lt-leb, ne-eqb}
+use lib.Dec.{leb, eqb}
 use lib.Pow.{pow-pos}
 use lib.Bits.{bitAnd}
-use lib.IntN.{ℤ, pos, negsuc}
+use lib.IntN.{ℤ, pos}
 use lib.Signed.{ltZ, leZ}
 use Rattle.x86.specs.Conditions.{eqZ}
 use Rattle.x86.specs.Flags.{half, signed, test, unlike, holds}

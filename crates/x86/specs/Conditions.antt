@@ -1,18 +1,26 @@
 -- Conditions by number, what each is turned over to, and the relation that is printed for it.
 use Prim.Native.Nat.{ℕ, _+_, _-_, _%_}
+use Prim.Native.String.{String}
 use mathlib.Core.Bool.{Bool, false, not, _||_}
 use mathlib.Core.List.{List, [], _∷_}
-use lib.Dec.{eqb, leb, ltb}
+use lib.Dec.{eqb, ltb}
 use lib.IntN.{ℤ, pos, negsuc}
 use lib.ListN.{getD}
 use lib.Signed.{ltZ, leZ}
 use Rattle.lists.specs.Ascii.{ascii}
 use Rattle.lists.specs.Choice.{pick}
-use Rattle.x86.specs.Words.{words, isOneOf}
+use Rattle.x86.specs.Words.{words, isWordOf}
 
 -- "Conditions: 0 none, then o no b ae e ne be a s ns p np l ge le g as 1 to 16"
 unfoldable pub conditionNames : List (List ℕ)
 conditionNames = [] ∷ words "o no b ae e ne be a s ns p np l ge le g"
+
+unfoldable pub conditionName : ℕ → List ℕ
+conditionName k = getD conditionNames k []
+
+-- condition k is one of those named
+abbrev pub among : ℕ → String → Bool
+among k names = isWordOf (conditionName k) (words names)
 
 -- 1 and 2, 3 and 4, .., 15 and 16 turn into each other; any other number stays
 unfoldable pub negate : ℕ → ℕ
@@ -72,4 +80,4 @@ relationAfterOther k = getD otherRelations k 6
 
 -- "unsigned for b ae be a"
 unfoldable pub printsUnsigned : ℕ → Bool
-printsUnsigned k = isOneOf k (3 ∷ 4 ∷ 7 ∷ 8 ∷ [])
+printsUnsigned k = among k "b ae be a"

@@ -5,9 +5,10 @@ use Prim.Native.Nat.{ℕ, _^_, _≤_, _<_}
 use mathlib.Core.Path.{_≡_}
 use mathlib.Core.Bool.{not}
 use lib.Bits.{bitAnd}
+use lib.Dec.{ltb}
 use lib.IntN.{ℤ, pos}
 use Rattle.lists.specs.Choice.{pick}
-use Rattle.x86.specs.Conditions.{relationAfterCmp, relationAfterTest, printsUnsigned, related, negate}
+use Rattle.x86.specs.Conditions.{relationAfterCmp, relationAfterTest, relationAfterOther, printsUnsigned, among, related, negate}
 use Rattle.x86.specs.Flags.{Flags, signed, cmp, test, holds}
 
 -- a number of w bits as the relation printed for condition k after CMP reads it
@@ -31,7 +32,14 @@ pub record FlagRule (w : ℕ) : Type 0 where
 abbrev pub Turns : ℕ → Type 0
 Turns k = (f : Flags) → holds (negate k) f ≡ not (holds k f)
 
+-- the conditions for which a relation is printed are those that the paper names
+pub record Printed : Type 0 where
+  pub after-cmp : (k : ℕ) → ltb (relationAfterCmp k) 6 ≡ among k "e ne b ae be a l ge le g"
+  pub after-test : (k : ℕ) → ltb (relationAfterTest k) 6 ≡ among k "e ne s ns l ge le g"
+  pub after-other : (k : ℕ) → ltb (relationAfterOther k) 6 ≡ among k "e ne s ns"
+
 pub record Rule : Type 0 where
+  pub printed : Printed
   pub at-8 : FlagRule 8
   pub at-16 : FlagRule 16
   pub at-32 : FlagRule 32

@@ -1,6 +1,5 @@
 -- `x86::conventions::after_last` is 16 without the leading zeros.
 -- There are at most 16 of them.
-use native.Mathlib.Omega.{arith}
 use lib.Count.{leading-le}
 use borrow.Author.Needs.{needs}
 use Rattle.x86.proofs.conventions.after_last.Statement.{statement}

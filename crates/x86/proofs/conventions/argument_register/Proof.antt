@@ -1,6 +1,6 @@
 -- `x86::conventions::argument_register` is the convention's list at an index.
 -- Past the last register the list has its default.
-use mathlib.Core.Path.{sym, _∙_}
+use mathlib.Core.Path.{sym}
 use borrow.Author.Tests.{eq-eqb, ne-eqb}
 use lib.ListN.{List·getD-eq-default}
 use Rattle.x86.specs.Conventions.{microsoft, systemV, argumentRegisters, argumentRegister}

@@ -1,6 +1,5 @@
 -- `x86::conventions::with_written` sets the bit of a full register, and of no other.
 -- A shift below 16 loses nothing at 16 bits.
-use mathlib.Core.Bool.{and-false}
 use Prim.Native.Nat.{_-_}
 use native.Mathlib.Omega.{arith}
 use borrow.Author.Tests.{lt-ltb, le-ltb, lt-leb, le-leb}

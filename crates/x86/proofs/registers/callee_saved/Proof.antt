@@ -1,6 +1,5 @@
 -- `x86::registers::callee_saved` asks whether the full register is one of those that a callee saves.
 -- The tests stand in the definition's order.
-use mathlib.Core.Path.{sym}
 use mathlib.Core.Bool.{or-assoc, or-false}
 use Rattle.x86.specs.Registers.{calleeSaved}
 use borrow.Author.Needs.{needs}

@@ -1,3 +1,5 @@
+-- `x86::registers::class_size` is the list of class sizes at a class.
+-- Past the last class the list has its default.
 use mathlib.Core.Path.{sym}
 use lib.ListN.{List·getD-eq-default}
 use Rattle.x86.specs.Registers.{classSizes}

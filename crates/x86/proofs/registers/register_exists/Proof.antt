@@ -1,3 +1,5 @@
+-- `x86::registers::register_exists` says which numbers are registers.
+-- The code's tests are those of the definition.
 use Rattle.x86.specs.Registers.{registerExists}
 use borrow.Author.Needs.{needs}
 use Rattle.x86.proofs.registers.register_exists.Statement.{statement}
