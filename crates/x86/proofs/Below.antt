@@ -1,7 +1,7 @@
--- A test that passes at each number below n, computed once, passes at any one of them; so do two tables that are one.
+-- A test that passes at each number below n, computed once, passes at any one of them.
 -- By cases on whether the number is the last.
-use mathlib.Core.Path.{_≡_}
-use mathlib.Core.Bool.{Bool, true, false, _&&_}
+use mathlib.Core.Path.{_≡_, refl}
+use mathlib.Core.Bool.{Bool, true, false, _&&_, Bool·beq}
 use Prim.Native.Nat.{ℕ, zero, suc, _<_}
 use native.Mathlib.Nat.{not-suc-le-zero}
 use native.Mathlib.Decide.{ℕ-discrete}
@@ -24,3 +24,9 @@ below-at p (suc n) t k h = go (ℕ-discrete k n) (below-at p n (both-left (allBe
     go : Dec (k ≡ n) → (k < n → T (p k)) → T (p k)
     go (yes e) ih = rw e (both-right (allBelow p n) (p n) t)
     go (no e) ih = ih (omega arith)
+
+pub beq→eq : (a b : Bool) → T (Bool·beq a b) → a ≡ b
+beq→eq true true t = refl
+beq→eq true false t = absurd t
+beq→eq false true t = absurd t
+beq→eq false false t = refl

@@ -1,12 +1,12 @@
 -- `negate` turns each of the conditions 1 to 16 over, on every setting of the flags.
 -- One test that antt computes, of 16 conditions at 32 settings.
-use mathlib.Core.Path.{_≡_, refl, subst}
+use mathlib.Core.Path.{_≡_, subst}
 use mathlib.Core.Bool.{Bool, true, false, not, _&&_, Bool·beq}
 use Prim.Native.Nat.{ℕ, _+_, _-_, _≤_, _<_}
 use native.Mathlib.Omega.{arith}
 use lib.Dec.{T}
 use Rattle.lists.specs.Choice.{allBelow}
-use Rattle.x86.proofs.Below.{both-left, both-right, below-at}
+use Rattle.x86.proofs.Below.{both-left, both-right, below-at, beq→eq}
 use Rattle.x86.specs.Flags.{Flags, holds}
 use Rattle.x86.specs.Conditions.{negate}
 use Rattle.x86.specs.FlagRule.{Turns}
@@ -18,12 +18,6 @@ flag p = p true && p false
 flag-at : (p : Bool → Bool) → T (flag p) → (b : Bool) → T (p b)
 flag-at p t true = both-left (p true) (p false) t
 flag-at p t false = both-right (p true) (p false) t
-
-beq→eq : (a b : Bool) → T (Bool·beq a b) → a ≡ b
-beq→eq true true t = refl
-beq→eq true false t = absurd t
-beq→eq false true t = absurd t
-beq→eq false false t = refl
 
 -- a test of five flags, at one setting and at all
 abbrev on : (Flags → Bool) → Bool → Bool → Bool → Bool → Bool → Bool

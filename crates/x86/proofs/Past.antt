@@ -37,6 +37,10 @@ module _ (m : ℕ) (h : 46 ≤ m) where
   no-flags = rw no-mnemonic
 
 module _ (k : ℕ) (h : 17 ≤ k) where
+  pub no-condition : conditionName k ≡ []
+  unfolding conditionNames conditionName
+  no-condition = List·getD-eq-default conditionNames [] h
+
   pub none-after-cmp : relationAfterCmp k ≡ 6
   unfolding relationAfterCmp
   none-after-cmp = List·getD-eq-default cmpRelations 6 h
@@ -50,8 +54,8 @@ module _ (k : ℕ) (h : 17 ≤ k) where
   none-after-other = List·getD-eq-default otherRelations 6 h
 
   pub not-unsigned : printsUnsigned k ≡ false
-  unfolding printsUnsigned conditionNames conditionName
-  not-unsigned = let e : conditionName k ≡ [] = List·getD-eq-default conditionNames [] h in rw e
+  unfolding printsUnsigned
+  not-unsigned = rw no-condition
 
   pub stays : negate k ≡ k
   unfolding negate
