@@ -1,6 +1,9 @@
 // Registers by number: class × 16 + index, 0 for none.
 ghost use mathlib.Core.Path.{_≡_};
-ghost use Rattle.x86.specs.Registers.{classSize, registerExists};
+ghost use Rattle.x86.specs.Registers.{classSize, registerExists, registerName, fullRegister, registerSize, calleeSaved};
+ghost use Rattle.x86.specs.Table.{isaBytes};
+use super::table::column;
+use super::table::text_at;
 
 const CLASS_SIZES: [u16; 10] = [0, 16, 4, 16, 16, 16, 2, 6, 16, 16];
 
@@ -19,4 +22,37 @@ pub fn register_exists(r: u16) -> bool
     ensures { λ b. ⌜ b ≡ registerExists r ⌝ }
 {
     (r == 0) | (r % 16 < class_size(r / 16))
+}
+
+pub fn register_spelling(isa: &[u8], r: u8) -> &[u8]
+    requires { ⌜ now isa ≡ isaBytes ⌝ }
+    ensures { λ s. ⌜ now s ≡ registerName r ⌝ }
+{
+    if r < 160 {
+        return text_at(isa, 8 * r as u16);
+    }
+    &isa[0..0]
+}
+
+pub fn full_register(isa: &[u8], r: u8) -> u8
+    requires { ⌜ now isa ≡ isaBytes ⌝ }
+    ensures { λ f. ⌜ f ≡ fullRegister r ⌝ }
+{
+    column(isa, 6, 8, 160, r, r)
+}
+
+pub fn register_size(isa: &[u8], r: u8) -> u8
+    requires { ⌜ now isa ≡ isaBytes ⌝ }
+    ensures { λ n. ⌜ n ≡ registerSize r ⌝ }
+{
+    column(isa, 7, 8, 160, r, 0)
+}
+
+// rbx rbp rsi rdi and r12 to r15, or a part of one.
+pub fn callee_saved(isa: &[u8], r: u8) -> bool
+    requires { ⌜ now isa ≡ isaBytes ⌝ }
+    ensures { λ b. ⌜ b ≡ calleeSaved r ⌝ }
+{
+    let f = full_register(isa, r);
+    (f == 83) | (f == 85) | (f == 86) | (f == 87) | (f == 92) | (f == 93) | (f == 94) | (f == 95)
 }

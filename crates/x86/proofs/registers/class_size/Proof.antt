@@ -1,24 +1,21 @@
+-- `x86::registers::class_size` is the list of class sizes at a class.
+-- Past the last class the list has its default.
 use mathlib.Core.Path.{sym}
 use lib.ListN.{List·getD-eq-default}
 use Rattle.x86.specs.Registers.{classSizes}
 use borrow.Author.Needs.{needs}
 use Rattle.x86.proofs.registers.class_size.Statement.{statement}
 use Rattle.x86.proofs.registers.class_size.Tie as tie
-use Rattle.x86.proofs.registers.class_size.Reads as reads
-use Rattle.x86.proofs.registers.class_size.Lts as lts
 
--- src/registers.rt:12:9
 mul-result : tie.Need-mul-result
 mul-result c = search needs
 
 array-read-result : tie.Need-array-read-result
 array-read-result c = search needs
 
--- src/registers.rt:8:1
 returns : tie.Need-returns
 returns c = search needs
 
--- src/registers.rt:8:1
 returns-2 : tie.Need-returns-2
 returns-2 c = sym (List·getD-eq-default classSizes 0 (c .if1 .left))
 

@@ -1,16 +1,13 @@
+-- `x86::registers::register_exists` says which numbers are registers.
+-- The code's tests are those of the definition.
 use Rattle.x86.specs.Registers.{registerExists}
 use borrow.Author.Needs.{needs}
 use Rattle.x86.proofs.registers.register_exists.Statement.{statement}
 use Rattle.x86.proofs.registers.register_exists.Tie as tie
-use Rattle.x86.proofs.registers.register_exists.Reads as reads
-use Rattle.x86.proofs.registers.register_exists.Lts as lts
-use Rattle.x86.proofs.registers.class_size.Reads as class-size-reads
 
--- src/registers.rt:21:26
 class-size-requires : tie.Need-class-size-requires
 class-size-requires c κs = search needs
 
--- src/registers.rt:18:1
 returns : tie.Need-returns
 unfolding registerExists
 returns c = simp (c .class-size .ensures)

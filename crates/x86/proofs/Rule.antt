@@ -1,0 +1,130 @@
+-- The flag rule, whole: after CMP and after TEST each condition that is printed as a relation holds exactly when the relation does.
+-- One law a condition, put in the order of the conditions' numbers; a number that is printed as none is excluded.
+use mathlib.Core.Path.{_≡_, refl, ap, sym, _∙_}
+use Prim.Native.Nat.{ℕ, zero, suc, _^_, _≤_, _<_}
+use Prim.Native.String.{String}
+use mathlib.Core.Bool.{false, Bool·beq}
+use mathlib.Core.List.{[]}
+use native.Mathlib.Decide.{decLt}
+use native.Mathlib.Omega.{arith}
+use lib.Bits.{bitAnd, and-self}
+use lib.Dec.{T, ltb}
+use lib.IntN.{pos}
+use Rattle.lists.specs.Choice.{allBelow}
+use Rattle.x86.specs.Conditions.{conditionNames, conditionName, among, relationAfterCmp, relationAfterTest, relationAfterOther, related, printsUnsigned}
+use Rattle.x86.specs.FlagRule.{FlagRule, Printed, Rule, readFor}
+use Rattle.x86.specs.Flags.{cmp, test, holds, signed}
+use Rattle.x86.specs.Words.{words, isWordOf}
+use Rattle.x86.proofs.Below.{below-at, beq→eq}
+use Rattle.x86.proofs.Cmp.{cmp-same, cmp-unlike, cmp-e, cmp-ne, cmp-b, cmp-ae, cmp-be, cmp-a, cmp-l, cmp-ge, cmp-le, cmp-g}
+use Rattle.x86.proofs.Negate.{negate-turns}
+use Rattle.x86.proofs.Past.{no-condition, none-after-cmp, none-after-test, none-after-other}
+use Rattle.x86.proofs.Test.{test-e, test-ne, test-s, test-ns, test-l, test-ge, test-le, test-g}
+
+-- a law at every number: at 0, at 1, and so on in the order of the conditions' numbers, and at the rest
+record Each (P : ℕ → Type 0) : Type 0 where
+  at : (k : ℕ) → P k
+
+first : (P : ℕ → Type 0) → P zero → ((k : ℕ) → P (suc k)) → (k : ℕ) → P k
+first P z s zero = z
+first P z s (suc k) = s k
+
+infixr 5 _▸_
+_▸_ : {P : ℕ → Type 0} → P zero → Each (λ k. P (suc k)) → Each P
+_▸_ {P} z s = record { at = first P z (s .at) }
+
+rest : {P : ℕ → Type 0} → ((k : ℕ) → P k) → Each P
+rest f = record { at = f }
+
+-- 6 is printed as none
+never : {A : Type 0} → 6 < 6 → A
+never x = absurd (omega arith)
+
+past : {A : Type 0} {n : ℕ} → suc (suc n) < 2 → A
+past x = absurd (omega arith)
+
+module _ (w a b : ℕ) (h : 1 ≤ w) (ha : a < 2 ^ w) (hb : b < 2 ^ w) where
+  abbrev Cmp : ℕ → Type 0
+  Cmp k = relationAfterCmp k < 6 → related (relationAfterCmp k) (readFor k w a) (readFor k w b) ≡ holds k (cmp w a b)
+
+  cmp-right : Each Cmp
+  unfolding relationAfterCmp related printsUnsigned conditionNames conditionName
+  cmp-right =
+      never
+      ▸ never ▸ never ▸ (λ x. cmp-b w a b h ha hb) ▸ (λ x. cmp-ae w a b h ha hb)
+      ▸ (λ x. cmp-e w a b h ha hb) ▸ (λ x. cmp-ne w a b h ha hb) ▸ (λ x. cmp-be w a b h ha hb) ▸ (λ x. cmp-a w a b h ha hb)
+      ▸ never ▸ never ▸ never ▸ never
+      ▸ (λ x. cmp-l w a b h ha hb) ▸ (λ x. cmp-ge w a b h ha hb) ▸ (λ x. cmp-le w a b h ha hb) ▸ (λ x. cmp-g w a b h ha hb)
+      ▸ rest (λ n. never)
+
+  abbrev Alike : ℕ → Type 0
+  Alike k = relationAfterCmp k < 2 → related (relationAfterCmp k) (pos a) (pos b) ≡ holds k (cmp w a b)
+
+  cmp-unsigned : Each Alike
+  unfolding relationAfterCmp related
+  cmp-unsigned =
+      past
+      ▸ past ▸ past ▸ past ▸ past
+      ▸ (λ x. cmp-same w a b h ha hb) ▸ (λ x. cmp-unlike w a b h ha hb) ▸ past ▸ past
+      ▸ past ▸ past ▸ past ▸ past
+      ▸ past ▸ past ▸ past ▸ past
+      ▸ rest (λ n. past)
+
+module _ (w a b : ℕ) where
+  abbrev Test : ℕ → Type 0
+  Test k = relationAfterTest k < 6 → related (relationAfterTest k) (signed w (bitAnd a b)) (pos 0) ≡ holds k (test w a b)
+
+  test-right : Each Test
+  unfolding relationAfterTest related
+  test-right =
+      never
+      ▸ never ▸ never ▸ never ▸ never
+      ▸ (λ x. test-e w a b) ▸ (λ x. test-ne w a b) ▸ never ▸ never
+      ▸ (λ x. test-s w a b) ▸ (λ x. test-ns w a b) ▸ never ▸ never
+      ▸ (λ x. test-l w a b) ▸ (λ x. test-ge w a b) ▸ (λ x. test-le w a b) ▸ (λ x. test-g w a b)
+      ▸ rest (λ n. never)
+
+  test-alike : a ≡ b → (k : ℕ) → relationAfterTest k < 6
+      → related (relationAfterTest k) (signed w a) (pos 0) ≡ holds k (test w a b)
+  test-alike e k x =
+      let s : bitAnd a b ≡ a = ap (bitAnd a) (sym e) ∙ and-self a in
+      ap (λ (n : ℕ). related (relationAfterTest k) (signed w n) (pos 0)) (sym s) ∙ test-right .at k x
+
+-- the rule at any width of at least one bit
+pub flag-rule : (w : ℕ) → 1 ≤ w → FlagRule w
+flag-rule w h =
+    record {
+      after-cmp = λ a b ha hb. cmp-right w a b h ha hb .at;
+      after-cmp-unsigned = λ a b ha hb. cmp-unsigned w a b h ha hb .at;
+      after-test = λ a b. test-right w a b .at;
+      after-test-alike = test-alike w;
+    }
+
+-- one computed test of the numbers below 17; past them nothing is printed, and no name is there
+named : (f : ℕ → ℕ) (names : String) → T (allBelow (λ k. Bool·beq (ltb (f k) 6) (among k names)) 17)
+    → isWordOf [] (words names) ≡ false → ((k : ℕ) → 17 ≤ k → f k ≡ 6) → (k : ℕ) → ltb (f k) 6 ≡ among k names
+named f names ok e none k =
+    elim (decLt k 17) [
+      | yes h ↦ beq→eq (ltb (f k) 6) (among k names) (below-at (λ j. Bool·beq (ltb (f j) 6) (among j names)) 17 ok k h)
+      | no h ↦ let g : 17 ≤ k = omega arith in rw (none k g, no-condition k g, e)
+    ]
+
+printed-named : Printed
+unfolding relationAfterCmp relationAfterTest relationAfterOther conditionNames conditionName
+printed-named =
+    record {
+      after-cmp = named relationAfterCmp "e ne b ae be a l ge le g" tt refl none-after-cmp;
+      after-test = named relationAfterTest "e ne s ns l ge le g" tt refl none-after-test;
+      after-other = named relationAfterOther "e ne s ns" tt refl none-after-other;
+    }
+
+pub rule : Rule
+rule =
+    record {
+      printed = printed-named;
+      at-8 = flag-rule 8 (omega arith);
+      at-16 = flag-rule 16 (omega arith);
+      at-32 = flag-rule 32 (omega arith);
+      at-64 = flag-rule 64 (omega arith);
+      turned = negate-turns;
+    }
