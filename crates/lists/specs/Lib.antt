@@ -2,3 +2,5 @@ pub mod Bytes
 pub mod Ascii
 pub mod Choice
 pub mod Below
+pub mod Put
+pub mod PutLaws
