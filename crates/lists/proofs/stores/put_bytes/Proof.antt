@@ -1,7 +1,7 @@
 -- `stores::put_bytes` meets its contract.
 -- The invariant: to store the rest of s where the loop stands is to store all of s where it began.
 use borrow.Author.Needs.{needs}
-use mathlib.Core.Path.{_≡_, refl, sym, ap, _∙_}
+use mathlib.Core.Path.{_≡_, refl, sym, _∙_}
 use mathlib.Core.List.{List}
 use Prim.Native.Nat.{ℕ, _≤_, _<_, _+_, _-_, min}
 use native.Mathlib.Decide.{decLe}

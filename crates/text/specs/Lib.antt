@@ -1,0 +1,5 @@
+pub mod Number
+pub mod NumberLaws
+pub mod Literal
+pub mod LiteralLaws
+pub mod Worked
