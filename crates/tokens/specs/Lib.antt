@@ -1,5 +1,10 @@
 pub mod Token
 pub mod Sheet
 pub mod SheetLaws
+pub mod PlainLaws
 pub mod Words
 pub mod WordLaws
+pub mod Listing
+pub mod Page
+pub mod ListingLaws
+pub mod Worked

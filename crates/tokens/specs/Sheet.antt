@@ -6,7 +6,7 @@ use lib.Dec.{eqb, ltb}
 use lib.ListN.{length, set}
 use Rattle.lists.specs.Choice.{pick}
 use Rattle.lists.specs.Put.{put}
-use Rattle.tokens.specs.Token.{Token}
+use Rattle.tokens.specs.Token.{Token, token}
 use Rattle.tokens.specs.declared.pen.Pen.{Pen}
 
 -- the tokens' ends and kinds, and the pen
@@ -59,3 +59,12 @@ push s t = record { text = put (s .marks .pen .text) (t .bytes) (s .text); marks
 unfoldable pub pushes : Sheet → List Token → Sheet
 pushes s [] = s
 pushes s (t ∷ ts) = pushes (push s t) ts
+
+-- the sheet with its pen made plain, or not, and a token made Text
+abbrev pub withPlain : Bool → Sheet → Sheet
+withPlain b s =
+    let p = s .marks .pen in
+    sheet (s .text) (s .marks .ends) (s .marks .kinds) (record { text = p .text; tokens = p .tokens; last = p .last; plain = b })
+
+abbrev pub asText : Token → Token
+asText t = token 0 (t .bytes)
