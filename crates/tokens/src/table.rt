@@ -1,19 +1,8 @@
 // What the lent table of words says of a word. A word past the last one is an empty text.
-use lists::reads::from;
+use lists::parts::part;
 use lists::reads::u8_at;
-use lists::reads::within;
 ghost use mathlib.Core.Path.{_≡_};
-ghost use lib.ListN.{take, drop};
 ghost use Rattle.tokens.specs.Words.{wordBytes, wordToken};
-
-// The part of s of at most n bytes that begins at an offset.
-fn part(s: &[u8], at: usize, n: usize) -> &[u8]
-    ensures { λ r. ⌜ now r ≡ take n (drop at (now (s .entry))) ⌝ }
-{
-    let rest = from(s, at);
-    let e = within(n, rest.len());
-    &rest[..e]
-}
 
 // The kind of word w.
 pub fn word_kind(words: &[u8], w: u8) -> u8

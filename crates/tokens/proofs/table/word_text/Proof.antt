@@ -30,7 +30,7 @@ returns : tie.Need-returns
 returns c =
     let a = c .before .before .before in
     let n : c .before .u8-at .result ≡ getD (a .args .words .now) (32 * a .args .w + 1) 0 = c .before .u8-at .ensures .0 in
-    c .part .ensures ∙ ap (λ (k : ℕ). take k (drop (32 * a .args .w + 2) (a .args .words .now))) n ∙ text-in (a .args .words .now) (a .args .w) (a .pre)
+    c .part .ensures .0 ∙ ap (λ (k : ℕ). take k (drop (32 * a .args .w + 2) (a .args .words .now))) n ∙ text-in (a .args .words .now) (a .args .w) (a .pre)
 
 pub word-text-spec : {M : Type 1} → statement M
 word-text-spec =

@@ -1,4 +1,4 @@
--- `table::part` meets its contract.
+-- `parts::part` meets its contract.
 -- A length kept within the list takes the same.
 use mathlib.Core.Path.{_≡_, sym, ap, _∙_}
 use mathlib.Core.List.{List}
@@ -8,8 +8,8 @@ use native.Mathlib.Omega.{arith}
 use lib.ListN.{length, take, length-take}
 use lib.Seq.{take-all}
 use borrow.Author.Needs.{needs}
-use Rattle.tokens.proofs.table.part.Statement.{statement}
-use Rattle.tokens.proofs.table.part.Tie as tie
+use Rattle.lists.proofs.parts.part.Statement.{statement}
+use Rattle.lists.proofs.parts.part.Tie as tie
 
 take-within : (s : List ℕ) (n e : ℕ) → e ≡ min n (length s) → take e s ≡ take n s
 take-within s n e h =
@@ -30,8 +30,10 @@ slice-aggregate-result c = simp length-take (omega arith)
 returns : tie.Need-returns
 returns c =
     let f = c .before .before .from in
-    let n = c .before .before .before .before .args .n in
-    take-within (f .result .now) n (c .before .within .result) (c .before .within .ensures) ∙ ap (take n) (f .ensures .0)
+    let n = c .before .before .before .before .args .n in (
+      take-within (f .result .now) n (c .before .within .result) (c .before .within .ensures) ∙ ap (take n) (f .ensures .0),
+      simp length-take (omega arith),
+    )
 
 pub part-spec : {M : Type 1} → statement M
 part-spec = tie.close (tie.spec from-requires within-requires slice-aggregate-result returns)
