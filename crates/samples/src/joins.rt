@@ -3,6 +3,8 @@ use crate::numbers::show;
 use lists::parts::part;
 use lists::reads::u8_at;
 use tokens::pen::Pen;
+use tokens::pen::first_pen;
+use tokens::pen::set_plain;
 use tokens::push::push_word;
 use tokens::table::word_kind;
 use tokens::table::word_text;
@@ -32,21 +34,16 @@ fn push_line(
     text: &mut [u8],
     ends: &mut [u32],
     kinds: &mut [u8],
-    plain: bool,
+    pen: Pen,
     words: &[u8],
     line: &[u8],
 )
     requires { ⌜ now words ≡ wordBytes ⌝ }
 {
-    let mut pen = Pen {
-        text: 0,
-        tokens: 0,
-        last: 255,
-        plain: plain,
-    };
+    let mut p = pen;
     let mut i = 0;
     while i < line.len() {
-        pen = push_word(text, ends, kinds, pen, words, line[i]);
+        p = push_word(text, ends, kinds, p, words, line[i]);
         i += 1;
     }
 }
@@ -75,7 +72,8 @@ fn show_line(plain: bool, words: &[u8], line: &[u8])
     let mut text = [0u8; 256];
     let mut ends = [0u32; 16];
     let mut kinds = [0u8; 16];
-    push_line(&mut text, &mut ends, &mut kinds, plain, words, line);
+    let pen = set_plain(first_pen(), plain);
+    push_line(&mut text, &mut ends, &mut kinds, pen, words, line);
     show_tokens(&text, &ends, &kinds);
     show(b"");
 }

@@ -250,3 +250,17 @@ listed ls l l′ x x′ e e′ k k′ r c f a b q =
       bytes = ap (λ (p : Page). p .sheet .marks .pen .text) q ∙ w .end ∙ zero-add _;
       tokens = ap (λ (p : Page). p .sheet .marks .pen .tokens) q ∙ w .count ∙ zero-add _ ∙ sym (ends-length 0 (all ls));
     }
+
+-- the lists of a listing beside each other have equal lengths
+counts-length : (n : ℕ) (ls : List (List Token)) → length (countsFrom n ls) ≡ length ls
+unfolding countsFrom
+counts-length n [] = refl
+counts-length n (l ∷ ls) = ap suc (counts-length (n + length (join l)) ls)
+
+pub lines-length : (ls : List (List Token)) → length (listing ls .lines) ≡ length ls
+unfolding listing
+lines-length ls = counts-length 0 ls
+
+pub kinds-as-ends : (ls : List (List Token)) → length (listing ls .kinds) ≡ length (listing ls .ends)
+unfolding listing
+kinds-as-ends ls = kinds-length (all ls) ∙ sym (ends-length 0 (all ls))

@@ -8,10 +8,10 @@ use Rattle.samples.proofs.joins.push_line.Statement.{statement}
 use Rattle.samples.proofs.joins.push_line.Tie as tie
 
 abbrev Inv-loop : tie.InvT-loop
-Inv-loop text₀ ends₀ kinds₀ plain words line pen₀ i₀ text ends kinds pen i = (i ≤ length line) × (length text ≡ length text₀) × (length ends ≡ length ends₀) × (length kinds ≡ length kinds₀)
+Inv-loop text₀ ends₀ kinds₀ words line p₀ i₀ text ends kinds p i = (i ≤ length line) × (length text ≡ length text₀) × (length ends ≡ length ends₀) × (length kinds ≡ length kinds₀)
 
 abbrev μ-loop : tie.MeasureT-loop
-μ-loop text₀ ends₀ kinds₀ plain words line pen₀ i₀ text ends kinds pen i = length line - i
+μ-loop text₀ ends₀ kinds₀ words line p₀ i₀ text ends kinds p i = length line - i
 
 loop-holds : tie.Need-loop-holds Inv-loop μ-loop
 loop-holds c = search needs
