@@ -61,7 +61,7 @@ again : escapes (ascii "\\n") ≡ ascii "\\\\n"
 unfolding escapes escape letter unseen
 again = refl
 
--- 80 characters are whole; of 81 the last gives way to the mark; the cut counts characters, not what they are spelt as
+-- 80 characters are whole; of 81 the last gives way to the mark
 exact : literalText false (replicate 80 97) ≡ ascii "\"" ++ replicate 80 97 ++ ascii "\""
 unfolding literalText opening closing escapes escape letter unseen
 exact = refl
@@ -69,3 +69,8 @@ exact = refl
 longer : literalText false (replicate 81 97) ≡ ascii "\"" ++ replicate 80 97 ++ (0xe2 ∷ 0x80 ∷ 0xa6 ∷ ascii "\"")
 unfolding literalText opening closing escapes escape letter unseen
 longer = refl
+
+-- the cut counts characters, not their spellings
+counted : literalText false (replicate 80 92) ≡ ascii "\"" ++ replicate 160 92 ++ ascii "\""
+unfolding literalText opening closing escapes escape letter
+counted = refl
