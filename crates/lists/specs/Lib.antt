@@ -4,3 +4,5 @@ pub mod Choice
 pub mod Below
 pub mod Signed
 pub mod SignedLaws
+pub mod Put
+pub mod PutLaws
