@@ -1,0 +1,6 @@
+pub mod Expr
+pub mod Names
+pub mod Memory
+pub mod Operand
+pub mod Alike
+pub mod Lent

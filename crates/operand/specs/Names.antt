@@ -1,0 +1,47 @@
+-- `name_or`: what stands for an address. "A string gives one Address token .. A name is copied without escaping. No entry: prefix
+-- and upper hex."
+use Prim.Native.Nat.{ℕ, zero, suc, _+_}
+use mathlib.Core.Bool.{Bool, true, false, _&&_, _||_}
+use mathlib.Core.List.{List}
+use lib.Dec.{eqb, leb}
+use Rattle.lists.specs.Choice.{pick, anyBelow}
+use Rattle.text.specs.Literal.{literalText}
+use Rattle.tokens.specs.Token.{Token, token}
+use Rattle.tokens.specs.Words.{prefixed}
+use Rattle.record.specs.declared.header.Header.{Header}
+use Rattle.record.specs.Layout.{entriesOf, pairsOf, textsOf, spansOf}
+use Rattle.record.specs.Atlas.{entryAddress, entryKind, entryText, spanFirst, spanLast}
+use Rattle.operand.specs.declared.names.Entry.{Entry}
+use Rattle.operand.specs.declared.names.Entry.the-variants.{At, Nothing}
+
+-- the first of the n entries from k on that stands at the address: rising addresses make it the only one
+unfoldable pub entryFrom : List ℕ → ℕ → ℕ → ℕ → Entry
+entryFrom entries va k zero = Nothing
+entryFrom entries va k (suc n) = pick (eqb (entryAddress entries k) va) (At k) (entryFrom entries va (suc k) n)
+
+module _ (h : Header) (s : List ℕ) where
+  unfoldable pub entryAt : ℕ → Entry
+  entryAt va = entryFrom (entriesOf h s) va 0 (h .atlas)
+
+  -- the token of entry k: kind 1 string, 2 wide string, 3 name
+  unfoldable pub entryToken : ℕ → Token
+  entryToken k =
+      let kind = entryKind (pairsOf h s) k in
+      let t = entryText (pairsOf h s) (textsOf h s) k in
+      pick (eqb kind 3) (token 4 t) (token 5 (literalText (eqb kind 2) t))
+
+  abbrev pub nameOrAt : Entry → ℕ → ℕ → Token
+  nameOrAt (At k) va w = entryToken k
+  nameOrAt Nothing va w = prefixed w va
+
+  -- the token for an address, with the word w as the prefix where no entry has it
+  unfoldable pub nameOr : ℕ → ℕ → Token
+  nameOr va w = nameOrAt (entryAt va) va w
+
+  -- whether a literal stands for the address
+  abbrev pub isLiteral : ℕ → Bool
+  isLiteral va = eqb (nameOr va 101 .kind) 5
+
+  -- the address lies in a span, "both included"
+  unfoldable pub inSpan : ℕ → Bool
+  inSpan va = anyBelow (λ k. leb (spanFirst (spansOf h s) k) va && leb va (spanLast (spansOf h s) k)) (h .spans)

@@ -1,0 +1,2 @@
+// Operands: names of addresses, memory, immediates.
+pub mod names;

@@ -1,0 +1,7 @@
+// Names of addresses.
+
+// An entry of the atlas that a search found.
+pub enum Entry {
+    At(u16),
+    Nothing,
+}
