@@ -1,0 +1,4 @@
+pub mod Condition
+pub mod Arguments
+pub mod Forms
+pub mod Print

@@ -1,0 +1,7 @@
+// Conditions.
+
+// The flag writer that a search found.
+pub enum Writer {
+    At(u16),
+    Nothing,
+}

@@ -1,0 +1,2 @@
+// Lines: conditions, arguments, and the forms of lines.
+pub mod condition;
