@@ -35,14 +35,15 @@ abbrev pub unsignedIf : Bool → List Token → List Token
 unsignedIf true ts = keyword "(unsigned)" ∷ ts
 unsignedIf false ts = ts
 
+-- of the n instructions from `first` on the last that writes flags; the part given begins at the bodies
+unfoldable pub flagWriter : List ℕ → ℕ → ℕ → Writer
+flagWriter bodies first zero = Nothing
+flagWriter bodies first (suc n) =
+    pick (writesFlags (mnemonicOf (bodyAt bodies (first + n)))) (At (first + n)) (flagWriter bodies first n)
+
 module _ (h : Header) (s : List ℕ) where
   abbrev pub bodyOf : ℕ → List ℕ
   bodyOf i = bodyAt (bodiesOf h s) i
-
-  -- of the n instructions from `first` on the last that writes flags
-  unfoldable pub flagWriter : ℕ → ℕ → Writer
-  flagWriter first zero = Nothing
-  flagWriter first (suc n) = pick (writesFlags (mnemonicOf (bodyOf (first + n)))) (At (first + n)) (flagWriter first n)
 
   -- after CMP: both operands, the first as unsigned where the rule reads unsigned
   abbrev pub afterCmp : List ℕ → ℕ → List Token
@@ -71,4 +72,4 @@ module _ (h : Header) (s : List ℕ) where
 
   -- condition cc tested by instruction i of the block whose first instruction is `first`
   unfoldable pub conditionTokens : ℕ → ℕ → ℕ → List Token
-  conditionTokens first i cc = conditionAfter (flagWriter first (i - first)) cc
+  conditionTokens first i cc = conditionAfter (flagWriter (bodiesOf h s) first (i - first)) cc

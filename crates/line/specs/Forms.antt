@@ -9,7 +9,8 @@ use Rattle.lists.specs.Choice.{pick, anyBelow}
 use Rattle.tokens.specs.Token.{Token, punct, plainText, keyword, register}
 use Rattle.x86.specs.Registers.{fullRegister, registerSize}
 use Rattle.record.specs.declared.header.Header.{Header}
-use Rattle.record.specs.Body.{mnemonicOf, operandCount, operandKind, operandRegister, operandNumber, baseOf, memorySize}
+use Rattle.record.specs.Layout.{bodiesOf}
+use Rattle.record.specs.Body.{bodyAt, mnemonicOf, operandCount, operandKind, operandRegister, operandNumber, baseOf, memorySize}
 use Rattle.operand.specs.Memory.{isIp}
 use Rattle.structure.specs.Plan.{What}
 use Rattle.structure.specs.Plan.What.{label-line, do-line, open-line, if-goto, while-line, close-line, goto-line, tail-call, insn-line}
@@ -108,7 +109,7 @@ unfoldable pub rowOf : ℕ → List Piece
 rowOf form = getD rows form []
 
 -- which cast a movzx (2) or movsx, movsxd (3, 4) prints: by whether the first operand is 4 bytes wide
-abbrev pub castForm : ℕ → List ℕ → ℕ
+unfoldable pub castForm : ℕ → List ℕ → ℕ
 castForm m b =
     let narrow = eqb (registerSize (operandRegister b 0)) 4 in
     pick (eqb m 2) (pick narrow 1 2) (pick narrow 3 4)
@@ -134,17 +135,17 @@ isOrOnes b =
     || (eqb (operandNumber b 1 % 4294967296) 4294967295 && eqb (operandKind b 0) 1 && eqb (memorySize b) 4))
 
 -- imul: exactly three operands, two or more, or `__asm`
-abbrev pub imulForm : ℕ → ℕ
+unfoldable pub imulForm : ℕ → ℕ
 imulForm count = pick (eqb count 3) 21 (pick (leb 2 count) 22 39)
 
 -- call: a near branch, memory by rip, eip or no base, or anything else
-abbrev pub callForm : List ℕ → ℕ
+unfoldable pub callForm : List ℕ → ℕ
 callForm b =
     pick (eqb (operandKind b 0) 2) 24
     (pick (eqb (operandKind b 0) 1 && (isIp (baseOf b) || eqb (baseOf b) 0)) 25 26)
 
 -- xchg with memory first, second, or not at all
-abbrev pub xchgForm : List ℕ → ℕ
+unfoldable pub xchgForm : List ℕ → ℕ
 xchgForm b = pick (eqb (operandKind b 0) 1) 34 (pick (eqb (operandKind b 1) 1) 35 39)
 
 -- the forms that the mnemonic alone decides, by mnemonic: mov; lea xor and or add sub shl shr sar rol ror inc dec neg not; pop;
@@ -153,20 +154,36 @@ abbrev pub plainForms : List ℕ
 plainForms = 39 ∷ 0 ∷ 39 ∷ 39 ∷ 39 ∷ 5 ∷ 12 ∷ 10 ∷ 11 ∷ 8 ∷ 9 ∷ 13 ∷ 14 ∷ 14 ∷ 15 ∷ 16 ∷ 17 ∷ 18 ∷ 19 ∷ 20 ∷ 39 ∷ 39 ∷ 23
     ∷ 39 ∷ 39 ∷ 39 ∷ 31 ∷ 32 ∷ 33 ∷ 39 ∷ 36 ∷ 37 ∷ 39 ∷ 39 ∷ 39 ∷ 39 ∷ 38 ∷ 38 ∷ []
 
--- the form of an instruction's line; `value` says whether a ret returns one
+unfoldable pub plainForm : ℕ → ℕ
+plainForm m = pick (ltb m 38) (getD plainForms m 0) 39
+
+-- xor 6, and 7, or 8, where the operands may make it the store of a constant
+unfoldable pub logicForm : ℕ → List ℕ → ℕ
+logicForm m b =
+    pick (eqb m 6 && isXorSelf b) 6
+    (pick (eqb m 7 && isAndZero b) 6
+    (pick (eqb m 8 && isOrOnes b) 7 (plainForm m)))
+
+-- ret, with a value or without
+unfoldable pub returnForm : Bool → ℕ
+returnForm value = pick value 27 28
+
+-- an indirect jmp: through memory a tail call, else a computed jump
+unfoldable pub jumpForm : List ℕ → ℕ
+jumpForm b = pick (eqb (operandKind b 0) 1) 29 30
+
+-- the form of an instruction's line, by its mnemonic; `value` says whether a ret returns one
 unfoldable pub insnForm : Bool → List ℕ → ℕ
 insnForm value b =
     let m = mnemonicOf b in
     pick (leb 2 m && leb m 4) (castForm m b)
-    (pick (eqb m 6 && isXorSelf b) 6
-    (pick (eqb m 7 && isAndZero b) 6
-    (pick (eqb m 8 && isOrOnes b) 7
     (pick (eqb m 20) (imulForm (operandCount b))
     (pick (eqb m 23) (callForm b)
-    (pick (eqb m 24) (pick value 27 28)
-    (pick (eqb m 25) (pick (eqb (operandKind b 0) 1) 29 30)
+    (pick (eqb m 24) (returnForm value)
+    (pick (eqb m 25) (jumpForm b)
     (pick (eqb m 29) (xchgForm b)
-    (getD plainForms m 39)))))))))
+    (pick (leb 6 m && leb m 8) (logicForm m b)
+    (plainForm m)))))))
 
 -- an instruction that leaves a value in the accumulator: its first operand is a part of rax (0x50), or it is a call
 unfoldable pub leavesValue : List ℕ → Bool
@@ -174,11 +191,15 @@ leavesValue b =
     (ltb 0 (operandCount b) && eqb (operandKind b 0) 0 && eqb (fullRegister (operandRegister b 0)) 0x50)
     || eqb (mnemonicOf b) 23
 
-module _ (h : Header) (s : List ℕ) where
-  -- ret: "with or without value (the six instructions before it)", in its block
-  unfoldable pub returnsValue : ℕ → ℕ → Bool
-  returnsValue first i = anyBelow (λ k. leb (first + suc k) i && leavesValue (bodyOf h s (i - suc k))) 6
+-- instruction i - 1 - k is of the block whose first instruction is `first`, and leaves a value; the part given begins at the bodies
+unfoldable pub valueBefore : List ℕ → ℕ → ℕ → ℕ → Bool
+valueBefore bodies first i k = ltb (first + k) i && leavesValue (bodyAt bodies (i - 1 - k))
 
+-- ret: "with or without value (the six instructions before it)", in its block
+unfoldable pub returnsValue : List ℕ → ℕ → ℕ → Bool
+returnsValue bodies first i = anyBelow (valueBefore bodies first i) 6
+
+module _ (h : Header) (s : List ℕ) where
   -- the form of a line that is written for this, of instruction i of the block whose first instruction is `first`
   abbrev pub formOf : What → ℕ → ℕ → ℕ
   formOf label-line first i = 40
@@ -189,4 +210,4 @@ module _ (h : Header) (s : List ℕ) where
   formOf close-line first i = 45
   formOf goto-line first i = 46
   formOf tail-call first i = 47
-  formOf insn-line first i = insnForm (returnsValue first i) (bodyOf h s i)
+  formOf insn-line first i = insnForm (returnsValue (bodiesOf h s) first i) (bodyOf h s i)

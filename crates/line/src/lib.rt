@@ -1,2 +1,4 @@
 // Lines: conditions, arguments, and the forms of lines.
+pub mod arguments;
 pub mod condition;
+pub mod forms;
