@@ -2,3 +2,4 @@
 pub mod arguments;
 pub mod condition;
 pub mod forms;
+pub mod rows;

@@ -6,3 +6,4 @@ pub mod Signed
 pub mod SignedLaws
 pub mod Put
 pub mod PutLaws
+pub mod Entries
