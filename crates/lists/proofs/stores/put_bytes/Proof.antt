@@ -1,0 +1,62 @@
+-- `stores::put_bytes` meets its contract.
+-- The invariant: to store the rest of s where the loop stands is to store all of s where it began.
+use borrow.Author.Needs.{needs}
+use mathlib.Core.Path.{_≡_, refl, sym, _∙_}
+use mathlib.Core.List.{List}
+use Prim.Native.Nat.{ℕ, _≤_, _<_, _+_, _-_, min}
+use native.Mathlib.Decide.{decLe}
+use native.Mathlib.Omega.{arith}
+use native.Mathlib.Numerals.{add-one}
+use lib.ListN.{length, drop, set, getD, length-set, drop-of-length-le}
+use lib.Seq.{drop-cons}
+use Rattle.lists.specs.Put.{put}
+use Rattle.lists.specs.PutLaws.{put-cons, put-none, put-past}
+use Rattle.lists.proofs.stores.put_bytes.Statement.{statement}
+use Rattle.lists.proofs.stores.put_bytes.Tie as tie
+
+abbrev Inv-loop : tie.InvT-loop
+Inv-loop out₀ s n i₀ out i = (i ≤ n) × (length out ≡ length out₀) × (put i (drop i s) out ≡ put 0 s out₀)
+
+abbrev μ-loop : tie.MeasureT-loop
+μ-loop out₀ s n i₀ out i = n - i
+
+step : (i : ℕ) (s e : List ℕ) → i < length s → put (i + 1) (drop (i + 1) s) (set e i (getD s i 0)) ≡ put i (drop i s) e
+step i s e h = rw (drop-cons s i 0, put-cons, add-one)
+
+-- where the loop ends, nothing is left to store
+done : (i : ℕ) (s e : List ℕ) → min (length s) (length e) ≤ i → put i (drop i s) e ≡ e
+done i s e h =
+    elim (decLe (length s) i) [
+      | yes a ↦ rw (drop-of-length-le s a, put-none)
+      | no b ↦ put-past i (drop i s) e (omega arith)
+    ]
+
+within-requires : tie.Need-within-requires Inv-loop μ-loop
+within-requires c κs = search needs
+
+loop-holds : tie.Need-loop-holds Inv-loop μ-loop
+loop-holds c = (search needs, refl, refl)
+
+shared-slice-read-out : tie.Need-shared-slice-read-out Inv-loop μ-loop
+shared-slice-read-out c = omega arith
+
+slice-write-out : tie.Need-slice-write-out Inv-loop μ-loop
+slice-write-out c = omega arith
+
+add-i : tie.Need-add-i Inv-loop μ-loop
+add-i c = omega arith
+
+loop-less : tie.Need-loop-less Inv-loop μ-loop
+loop-less c = omega arith
+
+loop-again : tie.Need-loop-again Inv-loop μ-loop
+loop-again c = (omega arith, simp length-set (omega arith), step _ _ _ (omega arith) ∙ c .before .before .loop .inv .2)
+
+same-length : tie.Need-same-length Inv-loop μ-loop
+same-length c = omega arith
+
+returns : tie.Need-returns Inv-loop μ-loop
+returns c = (refl, sym (done _ _ _ (omega arith)) ∙ c .before .loop .inv .2)
+
+pub put-bytes-spec : {M : Type 1} → statement M
+put-bytes-spec = tie.close (tie.spec Inv-loop μ-loop within-requires loop-holds shared-slice-read-out slice-write-out add-i loop-less loop-again same-length returns)
