@@ -2,3 +2,10 @@ pub mod Flow
 pub mod Shape
 pub mod Plan
 pub mod Demand
+pub mod Within
+pub mod Ranges
+pub mod Heard
+pub mod Addresses
+pub mod Braces
+pub mod Few
+pub mod Props
