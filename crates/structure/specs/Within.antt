@@ -1,6 +1,6 @@
 -- What stands at a place keeps within its range: a loop ends after its head and before the range's end, at a block with a
 -- closing test; a region ends behind the next place and not after the range, and its block ends with a conditional branch.
-use mathlib.Core.Path.{_≡_, refl, sym, ap, _∙_}
+use mathlib.Core.Path.{_≡_, refl, sym, ap, _∙_, subst}
 use mathlib.Core.Bool.{Bool, true, false, not, _&&_, _||_}
 use mathlib.Core.List.{List}
 use Prim.Native.Nat.{ℕ, zero, suc, _+_, _-_, _*_, _≤_, _<_}
@@ -57,6 +57,9 @@ last-ok : (p : ℕ → Bool) (i n : ℕ) → FoundOk p i n (lastFrom p i n)
 unfolding lastFrom
 last-ok p i zero = tt
 last-ok p i (suc n) = pick-both (FoundOk p i (suc n)) (p (i + n)) (At (i + n)) (lastFrom p i n) (λ e. (omega arith, omega arith, e)) (λ e. wider p i n (lastFrom p i n) (last-ok p i n))
+
+pub last-before : (p : ℕ → Bool) (i to j : ℕ) → lastFrom p i (to - i) ≡ At j → j < to
+last-before p i to j e = let h : FoundOk p i (to - i) (At j) = subst (FoundOk p i (to - i)) e (last-ok p i (to - i)) in omega arith
 
 -- whether a block has a label, at place i of a range; and a do-head's
 abbrev pub labelled : List ℕ → List ℕ → ℕ → ℕ → ℕ → ℕ → Bool
