@@ -28,10 +28,10 @@ module _ (blocks edges shown starts targets : List ℕ) (B : ℕ) where
   heardOf k cs = heardIn blocks shown k cs
 
   abbrev labels : Bool → ℕ → ℕ → List Line
-  labels b k d = labelIf blocks edges shown starts targets B b k d
+  labels b k d = labelIf b k d
 
   abbrev body : ℕ → ℕ → List Line
-  body k d = bodyLines blocks edges shown starts targets B k d
+  body k d = bodyLines blocks shown k d
 
   -- a label counts for nothing
   label-counted : (b : Bool) (k d : ℕ) (ls : List Line) → counted (labels b k d ++ ls) ≡ counted ls
@@ -39,31 +39,31 @@ module _ (blocks edges shown starts targets : List ℕ) (B : ℕ) where
   label-counted true k d ls = refl
   label-counted false k d ls = refl
 
-  flats : (i k n d : ℕ) → counted (flatLines blocks edges shown starts targets B i k n d) ≡ heardOf k (replicate n in-body)
+  flats : (i k n d : ℕ) → counted (flatLines blocks shown i k n d) ≡ heardOf k (replicate n in-body)
   unfolding flatLines flatBlock counted heardIn
   flats i k zero d = refl
   flats i k (suc n) d =
-      counted-join (flatBlock blocks edges shown starts targets B i k d) (flatLines blocks edges shown starts targets B i (suc k) n d)
+      counted-join (flatBlock blocks shown i k d) (flatLines blocks shown i (suc k) n d)
       ∙ rw (label-counted, flat-heard blocks edges shown starts targets B k d, flats i (suc k) n d)
 
-  test-counted : (j d : ℕ) → 1 ≤ countIn blocks j → counted (testBlock blocks edges shown starts targets B j d) ≡ hears last-in-body j
+  test-counted : (j d : ℕ) → 1 ≤ countIn blocks j → counted (testBlock blocks shown j d) ≡ hears last-in-body j
   unfolding testBlock
   test-counted j d h = label-counted (labelWanted blocks j) j (d + 1) _ ∙ last-heard blocks edges shown starts targets B j d h
 
-  loop-counted : (i j d : ℕ) → 1 ≤ countIn blocks j → counted (loopLines blocks edges shown starts targets B i j d) ≡ heardOf i (replicate (j - i) in-body) ++ hears last-in-body j
+  loop-counted : (i j d : ℕ) → 1 ≤ countIn blocks j → counted (loopLines blocks edges shown B i j d) ≡ heardOf i (replicate (j - i) in-body) ++ hears last-in-body j
   unfolding loopLines counted
   loop-counted i j d h =
       label-counted (headLabelled blocks edges B i j) i d _
-      ∙ counted-join (flatLines blocks edges shown starts targets B i i (j - i) (d + 1)) (testBlock blocks edges shown starts targets B j d)
+      ∙ counted-join (flatLines blocks shown i i (j - i) (d + 1)) (testBlock blocks shown j d)
       ∙ rw (flats i i (j - i) (d + 1), test-counted j d h)
 
-  plain-counted : (from i to d : ℕ) → counted (plainLines blocks edges shown starts targets B from i to d) ≡ hears (in-range to) i
+  plain-counted : (from i to d : ℕ) → counted (plainLines blocks edges shown B from i to d) ≡ hears (in-range to) i
   unfolding plainLines
   plain-counted from i to d = label-counted (labelled blocks edges B from i to) i d _ ∙ plain-heard blocks edges shown starts targets B i to d
 
   -- with the lines of the range behind an if-region's block
   region-counted : (from i to d : ℕ) (inner : List Line) → endingIn blocks i ≡ 2
-      → counted (plainLabel blocks edges shown starts targets B from i to d ++ (body i d ++ (line open-line i (lastIn blocks i) d ∷ (inner ++ (line close-line i 0 d ∷ [])))))
+      → counted (plainLabel blocks edges B from i to d ++ (body i d ++ (line open-line i (lastIn blocks i) d ∷ (inner ++ (line close-line i 0 d ∷ [])))))
       ≡ hears (in-range to) i ++ counted inner
   unfolding counted
   region-counted from i to d inner e =
@@ -93,7 +93,7 @@ module _ (blocks edges shown starts targets : List ℕ) (B : ℕ) where
       → Told from i to d (steps g s from i to d) (contextsOf h s i to)
   told-more g h Plain from i to d w q =
       let p = q from (i + 1) to d (omega arith) (omega arith) in (
-        counted-join (plainLines blocks edges shown starts targets B from i to d) (g from (i + 1) to d)
+        counted-join (plainLines blocks edges shown B from i to d) (g from (i + 1) to d)
             ∙ rw (plain-counted from i to d, p .0) (sym (one-block (in-range to) i (h (i + 1) to))),
         omega arith,
       )
@@ -101,7 +101,7 @@ module _ (blocks edges shown starts targets : List ℕ) (B : ℕ) where
       let p = q (i + 1) (i + 1) t (d + 1) (omega arith) (omega arith) in
       let r = q from t to d (omega arith) (omega arith) in
       let e : i + 1 + length (h (i + 1) t) ≡ t = omega arith in (
-        counted-join (regionLines blocks edges shown starts targets B g from i t to d) (g from t to d)
+        counted-join (regionLines blocks edges shown B g from i t to d) (g from t to d)
             ∙ rw (region-counted from i to d (g (i + 1) (i + 1) t (d + 1)) (w .2), p .0, r .0)
             (append-assoc (hears (in-range to) i) (heardOf (i + 1) (h (i + 1) t)) (heardOf t (h t to))
             ∙ sym (one-block (in-range to) i (h (i + 1) t ++ h t to)
@@ -111,7 +111,7 @@ module _ (blocks edges shown starts targets : List ℕ) (B : ℕ) where
   told-more g h (Loop j) from i to d w q =
       let p = q from (j + 1) to d (omega arith) (omega arith) in
       let e : i + length (replicate (j - i) in-body) ≡ j = rw length-replicate (omega arith) in (
-        counted-join (loopLines blocks edges shown starts targets B i j d) (g from (j + 1) to d)
+        counted-join (loopLines blocks edges shown B i j d) (g from (j + 1) to d)
             ∙ rw (loop-counted i j d (w .2), p .0)
             (append-assoc (heardOf i (replicate (j - i) in-body)) (hears last-in-body j) (heardOf (j + 1) (h (j + 1) to))
             ∙ sym (heard-join blocks shown i (replicate (j - i) in-body) (last-in-body ∷ h (j + 1) to)

@@ -58,13 +58,13 @@ wider m n (x ∷ xs) h p = (omega arith, wider m n xs h (p .1))
 
 module _ (blocks edges shown starts targets : List ℕ) (B : ℕ) where
   abbrev body : ℕ → ℕ → List Line
-  body k d = bodyLines blocks edges shown starts targets B k d
+  body k d = bodyLines blocks shown k d
 
   abbrev lines : ℕ → ℕ → ℕ → ℕ → List Line
-  lines k i n d = shownLines blocks edges shown starts targets B k i n d
+  lines k i n d = shownLines shown k i n d
 
   abbrev labels : Bool → ℕ → ℕ → List Line
-  labels b k d = labelIf blocks edges shown starts targets B b k d
+  labels b k d = labelIf b k d
 
   abbrev braced : ℕ → ℕ → List Line → List Line
   braced i d inner = line open-line i (lastIn blocks i) d ∷ (inner ++ (line close-line i 0 d ∷ []))
@@ -86,29 +86,29 @@ module _ (blocks edges shown starts targets : List ℕ) (B : ℕ) where
     leaf-or-none : (b : Bool) (w : What) (k i : ℕ) → Leaf w → P (pick b (line w k i d ∷ []) [])
     leaf-or-none b w k i l = pick-both P b _ _ (λ _. one w k i d l (le-refl d)) (λ _. none)
 
-    jump-all : (i to : ℕ) → P (jumpLines blocks edges shown starts targets B i to d)
+    jump-all : (i to : ℕ) → P (jumpLines blocks i to d)
     jump-all i to =
         pick-both P (eqb (branchTo blocks i) (i + 1) && ltb (i + 1) to) _ _ (λ _. none)
         (λ _. one (pick (isBlock (branchTo blocks i)) goto-line tail-call) i (lastIn blocks i) d
         (pick-both Leaf (isBlock (branchTo blocks i)) goto-line tail-call (λ _. tt) (λ _. tt)) (le-refl d))
 
-    closing-all : (i to : ℕ) → P (closingLines blocks edges shown starts targets B i to d)
+    closing-all : (i to : ℕ) → P (closingLines blocks i to d)
     unfolding closingLines
     closing-all i to =
         pick-both P (eqb (endingIn blocks i) 2) _ _ (λ _. one if-goto i (lastIn blocks i) d tt (le-refl d))
         (λ _. pick-both P (eqb (endingIn blocks i) 3) _ _ (λ _. jump-all i to) (λ _. none))
 
-    plain-all : (from i to : ℕ) → P (plainLines blocks edges shown starts targets B from i to d)
+    plain-all : (from i to : ℕ) → P (plainLines blocks edges shown B from i to d)
     unfolding plainLines
     plain-all from i to =
-        join (plainLabel blocks edges shown starts targets B from i to d) _ (labels-all (labelled blocks edges B from i to) i)
+        join (plainLabel blocks edges B from i to d) _ (labels-all (labelled blocks edges B from i to) i)
         (join (body i d) _ (lines-all i _ _) (closing-all i to))
 
-    flats-all : (i k n : ℕ) → P (flatLines blocks edges shown starts targets B i k n d)
+    flats-all : (i k n : ℕ) → P (flatLines blocks shown i k n d)
     unfolding flatLines flatBlock
     flats-all i k zero = none
     flats-all i k (suc n) =
-        join (flatBlock blocks edges shown starts targets B i k d) _
+        join (flatBlock blocks shown i k d) _
         (join (labels (ltb i k && labelWanted blocks k) k d) _ (labels-all (ltb i k && labelWanted blocks k) k)
         (join (body k d) _ (lines-all k _ _) (leaf-or-none (eqb (endingIn blocks k) 2) if-goto k (lastIn blocks k) tt)))
         (flats-all i (suc k) n)
@@ -126,7 +126,7 @@ module _ (blocks edges shown starts targets : List ℕ) (B : ℕ) where
   abbrev flat-lines : (d k i n : ℕ) → Flat (lines k i n d)
   flat-lines d k i n = lines-all Flat flat-none flat-join d (flat-ones d) k i n
 
-  loop-flat : (i j d : ℕ) → Flat (loopLines blocks edges shown starts targets B i j d)
+  loop-flat : (i j d : ℕ) → Flat (loopLines blocks edges shown B i j d)
   unfolding loopLines testBlock
   loop-flat i j d =
       flat-join (labels (headLabelled blocks edges B i j) i d) _ (flat-labels d (headLabelled blocks edges B i j) i)
@@ -145,15 +145,15 @@ module _ (blocks edges shown starts targets : List ℕ) (B : ℕ) where
   nests-more : (g : Go) (h : ℕ → ℕ → List Context) (s : Shape) (from i to d : ℕ) → Within blocks i to s → Below Nests g h i to
       → Flat (step blocks edges shown starts targets B g true s from i to d)
   nests-more g h (Loop j) from i to d w q =
-      flat-join (loopLines blocks edges shown starts targets B i j d) (g from (j + 1) to d) (loop-flat i j d) (q from (j + 1) to d (omega arith) (omega arith))
+      flat-join (loopLines blocks edges shown B i j d) (g from (j + 1) to d) (loop-flat i j d) (q from (j + 1) to d (omega arith) (omega arith))
   nests-more g h (Region t) from i to d w q =
       flat-join (labels (labelled blocks edges B from i to) i d ++ (body i d ++ braced i d (g (i + 1) (i + 1) t (d + 1)))) (g from t to d)
       (flat-join (labels (labelled blocks edges B from i to) i d) _ (flat-labels d (labelled blocks edges B from i to) i)
-      (flat-join (body i d) (braced i d (g (i + 1) (i + 1) t (d + 1))) (flat-lines d i (firstIn blocks i) (bodyCount blocks edges shown starts targets B i))
+      (flat-join (body i d) (braced i d (g (i + 1) (i + 1) t (d + 1))) (flat-lines d i (firstIn blocks i) (bodyCount blocks i))
       (braced-flat i d (g (i + 1) (i + 1) t (d + 1)) (q (i + 1) (i + 1) t (d + 1) (omega arith) (omega arith)))))
       (q from t to d (omega arith) (omega arith))
   nests-more g h Plain from i to d w q =
-      flat-join (plainLines blocks edges shown starts targets B from i to d) (g from (i + 1) to d)
+      flat-join (plainLines blocks edges shown B from i to d) (g from (i + 1) to d)
       (plain-all Flat flat-none flat-join d (flat-ones d) from i to) (q from (i + 1) to d (omega arith) (omega arith))
 
   pub braces-nest : (from to d : ℕ) → Nested [] (planOf blocks edges shown starts targets B from to d)
@@ -171,12 +171,12 @@ module _ (blocks edges shown starts targets : List ℕ) (B : ℕ) where
   abbrev low-lines : (m d : ℕ) → d < m → (k i n : ℕ) → Shallow m (lines k i n d)
   low-lines m d h k i n = lines-all (Shallow m) tt (shallow-join m) d (low m d h) k i n
 
-  loop-low : (m i j d : ℕ) → d + 1 < m → Shallow m (loopLines blocks edges shown starts targets B i j d)
+  loop-low : (m i j d : ℕ) → d + 1 < m → Shallow m (loopLines blocks edges shown B i j d)
   unfolding loopLines testBlock
   loop-low m i j d h =
       shallow-join m (labels (headLabelled blocks edges B i j) i d) _ (low-labels m d (omega arith) (headLabelled blocks edges B i j) i) (
         omega arith,
-        shallow-join m (flatLines blocks edges shown starts targets B i i (j - i) (d + 1)) _
+        shallow-join m (flatLines blocks shown i i (j - i) (d + 1)) _
             (flats-all (Shallow m) tt (shallow-join m) (d + 1) (low m (d + 1) h) i i (j - i))
             (shallow-join m (labels (labelWanted blocks j) j (d + 1)) _ (low-labels m (d + 1) h (labelWanted blocks j) j)
             (shallow-join m (lines j (firstIn blocks j) (countIn blocks j - 1) (d + 1)) _ (low-lines m (d + 1) h j (firstIn blocks j) (countIn blocks j - 1)) (omega arith, tt))),
@@ -188,21 +188,21 @@ module _ (blocks edges shown starts targets : List ℕ) (B : ℕ) where
   low-more : (g : Go) (h : ℕ → ℕ → List Context) (s : Shape) (from i to d : ℕ) → Within blocks i to s → Below Low g h i to
       → Shallow (d + (to - i)) (step blocks edges shown starts targets B g true s from i to d)
   low-more g h (Loop j) from i to d w q =
-      shallow-join (d + (to - i)) (loopLines blocks edges shown starts targets B i j d) (g from (j + 1) to d) (loop-low (d + (to - i)) i j d (omega arith))
+      shallow-join (d + (to - i)) (loopLines blocks edges shown B i j d) (g from (j + 1) to d) (loop-low (d + (to - i)) i j d (omega arith))
       (wider (d + (to - (j + 1))) (d + (to - i)) (g from (j + 1) to d) (omega arith) (q from (j + 1) to d (omega arith) (omega arith)))
   low-more g h (Region t) from i to d w q =
       let m = d + (to - i) in
       let p : d < d + (to - i) = omega arith in
       shallow-join m (labels (labelled blocks edges B from i to) i d ++ (body i d ++ braced i d (g (i + 1) (i + 1) t (d + 1)))) (g from t to d)
       (shallow-join m (labels (labelled blocks edges B from i to) i d) _ (low-labels m d p (labelled blocks edges B from i to) i)
-      (shallow-join m (body i d) (braced i d (g (i + 1) (i + 1) t (d + 1))) (low-lines m d p i (firstIn blocks i) (bodyCount blocks edges shown starts targets B i)) (
+      (shallow-join m (body i d) (braced i d (g (i + 1) (i + 1) t (d + 1))) (low-lines m d p i (firstIn blocks i) (bodyCount blocks i)) (
         p,
         shallow-join m (g (i + 1) (i + 1) t (d + 1)) _
             (wider (d + 1 + (t - (i + 1))) m (g (i + 1) (i + 1) t (d + 1)) (omega arith) (q (i + 1) (i + 1) t (d + 1) (omega arith) (omega arith))) (p, tt),
       )))
       (wider (d + (to - t)) m (g from t to d) (omega arith) (q from t to d (omega arith) (omega arith)))
   low-more g h Plain from i to d w q =
-      shallow-join (d + (to - i)) (plainLines blocks edges shown starts targets B from i to d) (g from (i + 1) to d)
+      shallow-join (d + (to - i)) (plainLines blocks edges shown B from i to d) (g from (i + 1) to d)
       (plain-all (Shallow (d + (to - i))) tt (shallow-join (d + (to - i))) d (low (d + (to - i)) d (omega arith)) from i to)
       (wider (d + (to - (i + 1))) (d + (to - i)) (g from (i + 1) to d) (omega arith) (q from (i + 1) to d (omega arith) (omega arith)))
 

@@ -67,10 +67,10 @@ module _ (blocks edges shown starts targets : List ℕ) (B : ℕ) where
   one-at-most true x = le-refl 1
   one-at-most false x = zero-le
 
-  label-few : (b : Bool) (k d : ℕ) → length (labelIf blocks edges shown starts targets B b k d) ≤ 1
+  label-few : (b : Bool) (k d : ℕ) → length (labelIf b k d) ≤ 1
   label-few b k d = one-at-most b _
 
-  lines-few : (k i n d : ℕ) → length (shownLines blocks edges shown starts targets B k i n d) ≤ n
+  lines-few : (k i n d : ℕ) → length (shownLines shown k i n d) ≤ n
   unfolding shownLines
   lines-few k i zero d = zero-le
   lines-few k i (suc n) d =
@@ -81,17 +81,17 @@ module _ (blocks edges shown starts targets : List ℕ) (B : ℕ) where
   jump-few true x = zero-le
   jump-few false x = le-refl 1
 
-  closing-few : (k to d : ℕ) → bodyCount blocks edges shown starts targets B k + length (closingLines blocks edges shown starts targets B k to d) ≤ counts k
+  closing-few : (k to d : ℕ) → bodyCount blocks k + length (closingLines blocks k to d) ≤ counts k
   unfolding bodyCount closingLines
   closing-few k to d = by (eqb (endingIn blocks k) 2) (eqb (endingIn blocks k) 3) refl refl
     where
       by : (b₂ b₃ : Bool) → eqb (endingIn blocks k) 2 ≡ b₂ → eqb (endingIn blocks k) 3 ≡ b₃
-          → bodyCount blocks edges shown starts targets B k + length (closingLines blocks edges shown starts targets B k to d) ≤ counts k
+          → bodyCount blocks k + length (closingLines blocks k to d) ≤ counts k
       by true b₃ p q = rw p (omega (arith, ends-some blocks k 1 p))
       by false true p q = rw (p, q) (omega (arith, ends-some blocks k 2 q, jump-few (eqb (branchTo blocks k) (k + 1) && ltb (k + 1) to) (line (pick (isBlock (branchTo blocks k)) goto-line tail-call) k (lastIn blocks k) d)))
       by false false p q = rw (p, q) (omega arith)
 
-  flat-closing-few : (k d : ℕ) → bodyCount blocks edges shown starts targets B k + length (pick (eqb (endingIn blocks k) 2) (line if-goto k (lastIn blocks k) d ∷ []) []) ≤ counts k
+  flat-closing-few : (k d : ℕ) → bodyCount blocks k + length (pick (eqb (endingIn blocks k) 2) (line if-goto k (lastIn blocks k) d ∷ []) []) ≤ counts k
   unfolding bodyCount
   flat-closing-few k d = by (eqb (endingIn blocks k) 2) (eqb (endingIn blocks k) 3) refl
     where
@@ -101,42 +101,42 @@ module _ (blocks edges shown starts targets : List ℕ) (B : ℕ) where
       by false true p = omega arith
       by false false p = omega arith
 
-  region-body-few : (k : ℕ) → endingIn blocks k ≡ 2 → bodyCount blocks edges shown starts targets B k + 1 ≤ counts k
+  region-body-few : (k : ℕ) → endingIn blocks k ≡ 2 → bodyCount blocks k + 1 ≤ counts k
   unfolding bodyCount
   region-body-few k e =
       let p : eqb (endingIn blocks k) 2 ≡ true = eq-eqb (endingIn blocks k) 2 e in
       rw p (omega (arith, ends-some blocks k 1 p))
 
-  plain-few : (from i to d : ℕ) → length (plainLines blocks edges shown starts targets B from i to d) ≤ 1 + counts i
+  plain-few : (from i to d : ℕ) → length (plainLines blocks edges shown B from i to d) ≤ 1 + counts i
   unfolding plainLines
   plain-few from i to d =
       simp length-append
       (omega (
         arith,
         label-few (labelled blocks edges B from i to) i d,
-        lines-few i (firstIn blocks i) (bodyCount blocks edges shown starts targets B i) d,
+        lines-few i (firstIn blocks i) (bodyCount blocks i) d,
         closing-few i to d,
       ))
 
-  flat-few : (i k d : ℕ) → length (flatBlock blocks edges shown starts targets B i k d) ≤ 1 + counts k
+  flat-few : (i k d : ℕ) → length (flatBlock blocks shown i k d) ≤ 1 + counts k
   unfolding flatBlock
   flat-few i k d =
       simp length-append
       (omega (
         arith,
         label-few (ltb i k && labelWanted blocks k) k d,
-        lines-few k (firstIn blocks k) (bodyCount blocks edges shown starts targets B k) d,
+        lines-few k (firstIn blocks k) (bodyCount blocks k) d,
         flat-closing-few k d,
       ))
 
-  flats-few : (i k n d : ℕ) → length (flatLines blocks edges shown starts targets B i k n d) ≤ sumBelow (λ m. counts (k + m)) n + n
+  flats-few : (i k n d : ℕ) → length (flatLines blocks shown i k n d) ≤ sumBelow (λ m. counts (k + m)) n + n
   unfolding flatLines
   flats-few i k zero d = zero-le
   flats-few i k (suc n) d =
       let s : sumBelow (λ m. counts (k + m)) (suc n) ≡ counts k + sumBelow (λ m. counts (suc k + m)) n = sum-front counts k n in
       simp length-append (omega (arith, flat-few i k d, flats-few i (suc k) n d))
 
-  loop-few : (i j d : ℕ) → 1 ≤ counts j → length (loopLines blocks edges shown starts targets B i j d) ≤ total i j + (j - i) + counts j + 3
+  loop-few : (i j d : ℕ) → 1 ≤ counts j → length (loopLines blocks edges shown B i j d) ≤ total i j + (j - i) + counts j + 3
   unfolding loopLines testBlock
   loop-few i j d h =
       simp length-append
@@ -169,7 +169,7 @@ module _ (blocks edges shown starts targets : List ℕ) (B : ℕ) where
       (omega (
         arith,
         label-few (labelled blocks edges B from i to) i d,
-        lines-few i (firstIn blocks i) (bodyCount blocks edges shown starts targets B i) d,
+        lines-few i (firstIn blocks i) (bodyCount blocks i) d,
         region-body-few i (w .2),
         q (i + 1) (i + 1) t (d + 1) (omega arith) (omega arith),
         q from t to d (omega arith) (omega arith),

@@ -45,7 +45,7 @@ module _ (blocks shown : List ℕ) where
 
 module _ (blocks edges shown starts targets : List ℕ) (B : ℕ) where
   abbrev lines : ℕ → ℕ → ℕ → ℕ → List Line
-  lines k i n d = shownLines blocks edges shown starts targets B k i n d
+  lines k i n d = shownLines shown k i n d
 
   abbrev hears : Context → ℕ → ℕ → ℕ → List ℕ
   hears c k i n = heard blocks shown c k i n
@@ -130,28 +130,28 @@ module _ (blocks edges shown starts targets : List ℕ) (B : ℕ) where
   jump-counted k d false false = refl
 
   pub plain-heard : (k to d : ℕ)
-      → counted (bodyLines blocks edges shown starts targets B k d ++ closingLines blocks edges shown starts targets B k to d)
+      → counted (bodyLines blocks shown k d ++ closingLines blocks k to d)
       ≡ hears (in-range to) k (firstIn blocks k) (countIn blocks k)
   unfolding closingLines bodyCount counted
   plain-heard k to d = by (eqb (ending k) 2) (eqb (ending k) 3) refl refl
     where
       by : (b₂ b₃ : Bool) → eqb (ending k) 2 ≡ b₂ → eqb (ending k) 3 ≡ b₃
-          → counted (bodyLines blocks edges shown starts targets B k d ++ closingLines blocks edges shown starts targets B k to d)
+          → counted (bodyLines blocks shown k d ++ closingLines blocks k to d)
           ≡ hears (in-range to) k (firstIn blocks k) (countIn blocks k)
       by true b₃ p q = rw p (closing-heard (in-range to) k d (line if-goto k (lastIn blocks k) d ∷ []) false (ends-some blocks k 1 p) (rw p) refl)
       by false true p q =
           let skips = eqb (branchTo blocks k) (k + 1) && ltb (k + 1) to in
-          rw (p, q) (closing-heard (in-range to) k d (jumpLines blocks edges shown starts targets B k to d) skips (ends-some blocks k 2 q) (rw (p, q)) (jump-counted k d skips (isBlock (branchTo blocks k))))
+          rw (p, q) (closing-heard (in-range to) k d (jumpLines blocks k to d) skips (ends-some blocks k 2 q) (rw (p, q)) (jump-counted k d skips (isBlock (branchTo blocks k))))
       by false false p q = rw (p, q) (other-heard (in-range to) k d (λ i. rw (p, q)))
 
   pub flat-heard : (k d : ℕ)
-      → counted (bodyLines blocks edges shown starts targets B k d ++ pick (eqb (ending k) 2) (line if-goto k (lastIn blocks k) d ∷ []) [])
+      → counted (bodyLines blocks shown k d ++ pick (eqb (ending k) 2) (line if-goto k (lastIn blocks k) d ∷ []) [])
       ≡ hears in-body k (firstIn blocks k) (countIn blocks k)
   unfolding bodyCount counted
   flat-heard k d = by (eqb (ending k) 2) (eqb (ending k) 3) refl refl
     where
       by : (b₂ b₃ : Bool) → eqb (ending k) 2 ≡ b₂ → eqb (ending k) 3 ≡ b₃
-          → counted (bodyLines blocks edges shown starts targets B k d ++ pick (eqb (ending k) 2) (line if-goto k (lastIn blocks k) d ∷ []) [])
+          → counted (bodyLines blocks shown k d ++ pick (eqb (ending k) 2) (line if-goto k (lastIn blocks k) d ∷ []) [])
           ≡ hears in-body k (firstIn blocks k) (countIn blocks k)
       by true b₃ p q = rw p (closing-heard in-body k d (line if-goto k (lastIn blocks k) d ∷ []) false (ends-some blocks k 1 p) (rw p) refl)
       by false true p q = rw (p, q) (closing-heard in-body k d [] true (ends-some blocks k 2 q) (rw (p, q)) refl)
@@ -159,7 +159,7 @@ module _ (blocks edges shown starts targets : List ℕ) (B : ℕ) where
 
   -- the block of an if-region
   pub region-heard : (k to d : ℕ) → ending k ≡ 2
-      → counted (bodyLines blocks edges shown starts targets B k d) ++ (lastIn blocks k ∷ []) ≡ hears (in-range to) k (firstIn blocks k) (countIn blocks k)
+      → counted (bodyLines blocks shown k d) ++ (lastIn blocks k ∷ []) ≡ hears (in-range to) k (firstIn blocks k) (countIn blocks k)
   unfolding bodyCount
   region-heard k to d e =
       let p : eqb (ending k) 2 ≡ true = eq-eqb (ending k) 2 e in

@@ -9,3 +9,5 @@ pub mod Addresses
 pub mod Braces
 pub mod Few
 pub mod Props
+pub mod Stored
+pub mod Codes
