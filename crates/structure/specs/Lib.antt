@@ -11,3 +11,4 @@ pub mod Few
 pub mod Props
 pub mod Stored
 pub mod Codes
+pub mod Parts

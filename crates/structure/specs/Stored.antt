@@ -10,8 +10,8 @@ use lib.ListN.{length, set, length-append}
 use lib.Seq.{sets, length-sets}
 
 -- there is room for vs from `at` on, in numbers
-abbrev pub Room : ℕ → List ℕ → Type 0
-Room at vs = at + length vs ≤ 281474976710656
+pub record Room (at : ℕ) (vs : List ℕ) : Type 0 where
+  pub fits : at + length vs ≤ 281474976710656
 
 pub record Stored (l : List ℕ) (at : ℕ) (vs : List ℕ) (r : ℕ) (l′ : List ℕ) : Type 0 where
   pub next : r ≡ at + length vs
@@ -60,7 +60,33 @@ left-done {l₀} {at₀} {vs₀} {l} {at} {vs} a e = record {
 
 -- what is left has room, and so has its first part
 pub left-part : {l₀ : List ℕ} {at₀ : ℕ} {vs₀ l : List ℕ} {at : ℕ} {vs xs ys : List ℕ} → Left l₀ at₀ vs₀ l at vs → Room at₀ vs₀ → Splits vs xs ys → Room at xs
-left-part {xs = xs} {ys = ys} a h e = omega (arith, a .ends, ap length (e .is), length-append xs ys)
+left-part {xs = xs} {ys = ys} a h e = record { fits = omega (arith, a .ends, ap length (e .is), length-append xs ys) }
 
 pub left-length : {l₀ : List ℕ} {at₀ : ℕ} {vs₀ l : List ℕ} {at : ℕ} {vs : List ℕ} → Left l₀ at₀ vs₀ l at vs → length l ≡ length l₀
 left-length {l₀} {at₀} {vs₀} {l} {at} {vs} a = sym (length-sets l at vs) ∙ ap length (a .list) ∙ length-sets l₀ at₀ vs₀
+
+-- one entry has as much room as another
+pub room-one : {at v w : ℕ} → Room at (v ∷ []) → Room at (w ∷ [])
+room-one h = record { fits = h .fits }
+
+-- ---- writers of parts, one after the other
+
+-- vs is xs, then ys, then zs
+pub record Three (vs xs ys zs : List ℕ) : Type 0 where
+  pub is : vs ≡ xs ++ (ys ++ zs)
+
+module _ {vs xs ys zs : List ℕ} (e : Three vs xs ys zs) where
+  lengths : length vs ≡ length xs + (length ys + length zs)
+  lengths = ap length (e .is) ∙ simp length-append
+
+  pub room-first : {at : ℕ} → Room at vs → Room at xs
+  room-first h = record { fits = omega (arith, lengths) }
+
+  pub room-second : {l l′ : List ℕ} {at r : ℕ} → Stored l at xs r l′ → Room at vs → Room r ys
+  room-second a h = record { fits = omega (arith, lengths, a .next) }
+
+  pub room-third : {l l′ l″ : List ℕ} {at r r′ : ℕ} → Stored l at xs r l′ → Stored l′ r ys r′ l″ → Room at vs → Room r′ zs
+  room-third a b h = record { fits = omega (arith, lengths, a .next, b .next) }
+
+  pub stored-three : {l l′ l″ l‴ : List ℕ} {at r r′ r″ : ℕ} → Stored l at xs r l′ → Stored l′ r ys r′ l″ → Stored l″ r′ zs r″ l‴ → Stored l at vs r″ l‴
+  stored-three a b c = rw (e .is) (stored-then a (stored-then b c))

@@ -27,7 +27,7 @@ pub fn put_line(out: &mut [u64], at: usize, what: u64, k: Place, i: u32, indent:
     at + 1
 }
 
-fn one_less(d: u32) -> u32
+pub fn one_less(d: u32) -> u32
     ensures { λ r. ⌜ r ≡ d - 1 ⌝ }
 {
     if d == 0 { 0 } else { d - 1 }

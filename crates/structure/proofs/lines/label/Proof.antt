@@ -1,9 +1,8 @@
 -- A label, if wanted: `label` meets its contract.
 -- By whether it is wanted.
 use mathlib.Core.Path.{_≡_, refl, sym, ap, _∙_}
-use Rattle.structure.specs.Stored.{stored-none}
+use Rattle.structure.specs.Stored.{stored-none, room-one}
 use borrow.Author.Needs.{needs}
-use native.Mathlib.Omega.{arith}
 use Rattle.structure.proofs.lines.label.Statement.{statement}
 use Rattle.structure.proofs.lines.label.Tie as tie
 use Rattle.structure.proofs.lines.label.Reads as reads
@@ -15,7 +14,7 @@ one-less-requires : tie.Need-one-less-requires
 one-less-requires c κs = search needs
 
 put-line-requires : tie.Need-put-line-requires
-put-line-requires c κs = let room = simp (c .before .before .if1 .taken) at (c .before .before .before .before .pre .1) in (search needs, search needs, search needs, omega arith)
+put-line-requires c κs = let room = simp (c .before .before .if1 .taken) at (c .before .before .before .before .pre .1) in (search needs, search needs, search needs, room-one room)
 
 same-length : tie.Need-same-length
 same-length c = search needs

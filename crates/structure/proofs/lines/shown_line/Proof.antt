@@ -3,7 +3,6 @@
 use mathlib.Core.Path.{_≡_, refl, sym, ap, _∙_}
 use Rattle.structure.specs.Stored.{stored-none}
 use borrow.Author.Needs.{needs}
-use native.Mathlib.Omega.{arith}
 use Rattle.structure.proofs.lines.shown_line.Statement.{statement}
 use Rattle.structure.proofs.lines.shown_line.Tie as tie
 use Rattle.structure.proofs.lines.shown_line.Reads as reads
@@ -18,7 +17,7 @@ put-line-requires : tie.Need-put-line-requires
 put-line-requires c κs =
     let s = c .before .before in
     let room = simp (sym (s .is-shown .ensures), c .before .if1 .taken) at (s .before .before .before .pre .2) in
-    (search needs, search needs, search needs, omega arith)
+    (search needs, search needs, search needs, room)
 
 same-length : tie.Need-same-length
 same-length c = search needs
