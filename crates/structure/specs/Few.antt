@@ -7,7 +7,7 @@ use Prim.Native.Nat.{ℕ, zero, suc, _+_, _-_, _*_, _≤_, _<_, zero-le}
 use native.Mathlib.Nat.{le-refl}
 use native.Mathlib.Omega.{arith}
 use lib.Dec.{ltb, eqb}
-use lib.ListN.{length, length-append}
+use lib.ListN.{getD, length, length-append}
 use borrow.Author.Tests.{eqb-true, eq-eqb}
 use Rattle.lists.specs.Choice.{pick, sumBelow}
 use Rattle.structure.specs.Flow.{firstIn, countIn, endingIn, branchTo, isBlock, lastIn, isShown, labelWanted}
@@ -48,6 +48,10 @@ sum-one c i =
     let e : i + 1 - i ≡ 1 = omega arith in
     let f : i + 0 ≡ i = omega arith in
     rw (e, f) (omega arith)
+
+sum-bound : (c : ℕ → ℕ) (n : ℕ) → ((k : ℕ) → c k < 65536) → sumBelow c n ≤ 65535 * n
+sum-bound c zero h = zero-le
+sum-bound c (suc n) h = omega (arith, sum-bound c n h, h n)
 
 module _ (blocks edges shown starts targets : List ℕ) (B : ℕ) where
   abbrev counts : ℕ → ℕ
@@ -183,3 +187,7 @@ module _ (blocks edges shown starts targets : List ℕ) (B : ℕ) where
 
   pub lines-are-few : (from to d : ℕ) → length (planOf blocks edges shown starts targets B from to d) ≤ instructionsFrom blocks edges shown starts targets B from to + 2 * (to - from)
   lines-are-few from to d = range-all blocks edges shown starts targets B Few (λ f i t e h. zero-le) few-more from from to d
+
+  -- rows of two bytes a number: the number of lines fits four
+  pub lines-fit : (from to d : ℕ) → ((k : ℕ) → getD blocks k 0 < 65536) → to < 65536 → length (planOf blocks edges shown starts targets B from to d) < 4294967296
+  lines-fit from to d h p = omega (arith, lines-are-few from to d, sum-bound (λ m. counts (from + m)) (to - from) (λ m. h (8 * (from + m) + 1)))

@@ -12,3 +12,4 @@ pub mod Props
 pub mod Stored
 pub mod Codes
 pub mod Parts
+pub mod Turns

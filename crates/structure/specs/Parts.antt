@@ -28,16 +28,7 @@ branchLine blocks k d = pick (eqb (endingIn blocks k) 2) (line if-goto k (lastIn
 abbrev pub doLines : List ℕ → List ℕ → ℕ → ℕ → ℕ → List Line
 doLines blocks shown i j d = flatLines blocks shown i i (j - i) (d + 1) ++ testBlock blocks shown j d
 
-module _ (blocks edges shown : List ℕ) (B : ℕ) where
-  pub plain-parts : (from i to d : ℕ)
-      → Three (codes (plainLines blocks edges shown B from i to d)) (codes (plainLabel blocks edges B from i to d)) (codes (bodyLines blocks shown i d)) (codes (closingLines blocks i to d))
-  unfolding plainLines
-  plain-parts from i to d = record { is = codes-three (plainLabel blocks edges B from i to d) (bodyLines blocks shown i d) (closingLines blocks i to d) }
-
-  pub head-parts : (from i to d : ℕ)
-      → Three (codes (headLines blocks edges shown B from i to d)) (codes (plainLabel blocks edges B from i to d)) (codes (bodyLines blocks shown i d)) (codes (line open-line i (lastIn blocks i) d ∷ []))
-  head-parts from i to d = record { is = codes-three (plainLabel blocks edges B from i to d) (bodyLines blocks shown i d) (line open-line i (lastIn blocks i) d ∷ []) }
-
+module _ (blocks shown : List ℕ) where
   pub flat-parts : (i k d : ℕ)
       → Three (codes (flatBlock blocks shown i k d)) (codes (labelIf (ltb i k && labelWanted blocks k) k d)) (codes (bodyLines blocks shown k d)) (codes (branchLine blocks k d))
   unfolding flatBlock
@@ -45,15 +36,9 @@ module _ (blocks edges shown : List ℕ) (B : ℕ) where
 
   pub test-parts : (j d : ℕ)
       → Three (codes (testBlock blocks shown j d)) (codes (labelIf (labelWanted blocks j) j (d + 1)))
-        (codes (shownLines shown j (firstIn blocks j) (countIn blocks j - 1) (d + 1))) (codes (line while-line j (lastIn blocks j) d ∷ []))
+      (codes (shownLines shown j (firstIn blocks j) (countIn blocks j - 1) (d + 1))) (codes (line while-line j (lastIn blocks j) d ∷ []))
   unfolding testBlock
   test-parts j d = record { is = codes-three (labelIf (labelWanted blocks j) j (d + 1)) (shownLines shown j (firstIn blocks j) (countIn blocks j - 1) (d + 1)) (line while-line j (lastIn blocks j) d ∷ []) }
-
-  pub loop-parts : (i j d : ℕ)
-      → Three (codes (loopLines blocks edges shown B i j d)) (codes (labelIf (headLabelled blocks edges B i j) i d))
-        (codes (line do-line i 0 d ∷ [])) (codes (doLines blocks shown i j d))
-  unfolding loopLines
-  loop-parts i j d = record { is = codes-three (labelIf (headLabelled blocks edges B i j) i d) (line do-line i 0 d ∷ []) (doLines blocks shown i j d) }
 
   pub do-parts : (i j d : ℕ) → Three (codes (doLines blocks shown i j d)) [] (codes (flatLines blocks shown i i (j - i) (d + 1))) (codes (testBlock blocks shown j d))
   do-parts i j d = record { is = codes-join (flatLines blocks shown i i (j - i) (d + 1)) (testBlock blocks shown j d) }
@@ -70,7 +55,23 @@ module _ (blocks edges shown : List ℕ) (B : ℕ) where
   unfolding flatLines
   flats-over i k d = refl
 
+module _ (blocks edges shown : List ℕ) (B : ℕ) where
+  pub plain-parts : (from i to d : ℕ)
+      → Three (codes (plainLines blocks edges shown B from i to d)) (codes (plainLabel blocks edges B from i to d)) (codes (bodyLines blocks shown i d)) (codes (closingLines blocks i to d))
+  unfolding plainLines
+  plain-parts from i to d = record { is = codes-three (plainLabel blocks edges B from i to d) (bodyLines blocks shown i d) (closingLines blocks i to d) }
+
+  pub head-parts : (from i to d : ℕ)
+      → Three (codes (headLines blocks edges shown B from i to d)) (codes (plainLabel blocks edges B from i to d)) (codes (bodyLines blocks shown i d)) (codes (line open-line i (lastIn blocks i) d ∷ []))
+  head-parts from i to d = record { is = codes-three (plainLabel blocks edges B from i to d) (bodyLines blocks shown i d) (line open-line i (lastIn blocks i) d ∷ []) }
+
+  pub loop-parts : (i j d : ℕ)
+      → Three (codes (loopLines blocks edges shown B i j d)) (codes (labelIf (headLabelled blocks edges B i j) i d))
+      (codes (line do-line i 0 d ∷ [])) (codes (doLines blocks shown i j d))
+  unfolding loopLines
+  loop-parts i j d = record { is = codes-three (labelIf (headLabelled blocks edges B i j) i d) (line do-line i 0 d ∷ []) (doLines blocks shown i j d) }
+
   pub region-parts : (go : Go) (from i t to d : ℕ)
       → Three (codes (regionLines blocks edges shown B go from i t to d)) (codes (headLines blocks edges shown B from i to d))
-        (codes (go (i + 1) (i + 1) t (d + 1))) (codes (line close-line i 0 d ∷ []))
+      (codes (go (i + 1) (i + 1) t (d + 1))) (codes (line close-line i 0 d ∷ []))
   region-parts go from i t to d = record { is = simp (map-append, append-assoc) }

@@ -65,6 +65,9 @@ left-part {xs = xs} {ys = ys} a h e = record { fits = omega (arith, a .ends, ap 
 pub left-length : {l₀ : List ℕ} {at₀ : ℕ} {vs₀ l : List ℕ} {at : ℕ} {vs : List ℕ} → Left l₀ at₀ vs₀ l at vs → length l ≡ length l₀
 left-length {l₀} {at₀} {vs₀} {l} {at} {vs} a = sym (length-sets l at vs) ∙ ap length (a .list) ∙ length-sets l₀ at₀ vs₀
 
+pub stored-length : {l : List ℕ} {at : ℕ} {vs : List ℕ} {r : ℕ} {l′ : List ℕ} → Stored l at vs r l′ → length l′ ≡ length l
+stored-length {l} {at} {vs} {r} {l′} s = ap length (s .list) ∙ length-sets l at vs
+
 -- one entry has as much room as another
 pub room-one : {at v w : ℕ} → Room at (v ∷ []) → Room at (w ∷ [])
 room-one h = record { fits = h .fits }

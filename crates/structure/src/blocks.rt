@@ -12,15 +12,14 @@ use crate::lines::put_line;
 use crate::lines::shown_lines;
 use crate::tests::has_outside_jump_to;
 ghost use mathlib.Core.Bool.{_&&_};
-ghost use mathlib.Core.List.{[], _∷_};
 ghost use mathlib.Core.Path.{_≡_};
 ghost use Prim.Native.Nat.{_+_, _-_, _<_, _≤_};
 ghost use lib.Dec.{eqb, ltb};
 ghost use Rattle.structure.specs.Flow.{branchTo};
-ghost use Rattle.structure.specs.Plan.{bodyCount, bodyLines, jumpLines, closingLines, plainLines, flatBlock, testBlock};
+ghost use Rattle.structure.specs.Plan.{bodyCount, bodyLines, jumpLines, closingLines, plainLines};
 ghost use Rattle.structure.specs.Within.{labelled};
 ghost use Rattle.structure.specs.Codes.{codes};
-ghost use Rattle.structure.specs.Parts.{headLines, branchLine};
+ghost use Rattle.structure.specs.Parts.{headLines};
 ghost use Rattle.structure.specs.Stored.{Stored, Room};
 
 // Whether the block at place i of a range has a label.
@@ -48,7 +47,14 @@ fn body_count(blocks: &[u16], k: Place) -> u32
     n
 }
 
-fn body_lines(blocks: &[u16], shown: &[u8], k: Place, indent: u32, out: &mut [u64], at: usize) -> usize
+pub fn body_lines(
+    blocks: &[u16],
+    shown: &[u8],
+    k: Place,
+    indent: u32,
+    out: &mut [u64],
+    at: usize,
+) -> usize
     requires { ⌜ (indent < 131072) × Room at (codes (bodyLines (now blocks) (now shown) (k .0) indent)) ⌝ }
     ensures { λ r. ⌜ Stored (now (out .entry)) at (codes (bodyLines (now (blocks .entry)) (now (shown .entry)) (k .0) indent)) r (now (out .exit)) ⌝ }
 {
@@ -81,7 +87,14 @@ fn jump_line(blocks: &[u16], i: Place, to: Place, indent: u32, out: &mut [u64], 
 }
 
 // The line of a block's closing branch or jmp.
-fn closing_line(blocks: &[u16], i: Place, to: Place, indent: u32, out: &mut [u64], at: usize) -> usize
+fn closing_line(
+    blocks: &[u16],
+    i: Place,
+    to: Place,
+    indent: u32,
+    out: &mut [u64],
+    at: usize,
+) -> usize
     requires { ⌜ (indent < 131072) × Room at (codes (closingLines (now blocks) (i .0) (to .0) indent)) ⌝ }
     ensures { λ r. ⌜ Stored (now (out .entry)) at (codes (closingLines (now (blocks .entry)) (i .0) (to .0) indent)) r (now (out .exit)) ⌝ }
 {

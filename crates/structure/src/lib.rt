@@ -3,5 +3,7 @@ pub mod blocks;
 pub mod edges;
 pub mod flow;
 pub mod lines;
+pub mod loops;
+pub mod plan;
 pub mod shape;
 pub mod tests;

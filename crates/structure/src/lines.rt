@@ -56,7 +56,15 @@ fn shown_line(shown: &[u8], k: Place, i: u32, indent: u32, out: &mut [u64], at: 
 }
 
 // The lines of n instructions from the first on.
-pub fn shown_lines(shown: &[u8], k: Place, first: u32, n: u32, indent: u32, out: &mut [u64], at: usize) -> usize
+pub fn shown_lines(
+    shown: &[u8],
+    k: Place,
+    first: u32,
+    n: u32,
+    indent: u32,
+    out: &mut [u64],
+    at: usize,
+) -> usize
     requires { ⌜ (first + n < 131072) × (indent < 131072) × Room at (codes (shownLines (now shown) (k .0) first n indent)) ⌝ }
     ensures { λ r. ⌜ Stored (now (out .entry)) at (codes (shownLines (now (shown .entry)) (k .0) first n indent)) r (now (out .exit)) ⌝ }
 {
