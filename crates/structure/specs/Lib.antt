@@ -13,3 +13,5 @@ pub mod Stored
 pub mod Codes
 pub mod Parts
 pub mod Turns
+pub mod Reads
+pub mod Worked

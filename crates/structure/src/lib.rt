@@ -1,5 +1,6 @@
 // The structure of a range: loops, regions, labels and jumps, as a plan of lines with no text.
 pub mod blocks;
+pub mod codes;
 pub mod edges;
 pub mod flow;
 pub mod lines;

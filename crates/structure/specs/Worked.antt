@@ -1,0 +1,38 @@
+-- Worked examples: document 01's flow, a self-loop, and a do-loop of two blocks.
+-- Each is computed.
+use mathlib.Core.Path.{_≡_, refl}
+use mathlib.Core.List.{List, [], _∷_}
+use Prim.Native.Nat.{ℕ}
+use Rattle.structure.specs.Flow.{closesLoop, hasEdge, endingIn, singleEntry, escapes, outsideJump}
+use Rattle.structure.specs.Shape.{shapeAt, lastLoop, lastFrom, regionAt, opensRegion}
+use Rattle.structure.specs.Plan.{line, planOf, rangeLines, rangeGo, plainLines, shownLines, bodyCount, closingLines, loopLines, flatLines, flatBlock, testBlock}
+use Rattle.structure.specs.Plan.What.{label-line, do-line, open-line, if-goto, while-line, close-line, insn-line}
+
+-- an address below 256, in eight bytes
+abbrev bytes : ℕ → List ℕ → List ℕ
+bytes a r = a ∷ 0 ∷ 0 ∷ 0 ∷ 0 ∷ 0 ∷ 0 ∷ 0 ∷ r
+
+-- test, jne over a block with mov, ret with a label wanted: the test is silent
+example : planOf
+    (0 ∷ 2 ∷ 0 ∷ 2 ∷ 0 ∷ 2 ∷ 2 ∷ 0 ∷ 2 ∷ 1 ∷ 2 ∷ 1 ∷ 0 ∷ 0 ∷ 65535 ∷ 0 ∷ 3 ∷ 1 ∷ 3 ∷ 0 ∷ 1 ∷ 0 ∷ 65535 ∷ 0 ∷ [])
+    (2 ∷ 1 ∷ 1 ∷ 2 ∷ 2 ∷ 3 ∷ []) (0 ∷ 0 ∷ 1 ∷ 1 ∷ [])
+    (bytes 0 (bytes 4 (bytes 16 []))) (bytes 16 (bytes 4 (bytes 16 []))) 3 0 3 1
+    ≡ line open-line 0 1 1 ∷ line insn-line 1 2 2 ∷ line close-line 0 0 1 ∷ line label-line 2 0 0 ∷ line insn-line 2 3 1 ∷ []
+unfolding rangeLines rangeGo shapeAt lastLoop lastFrom closesLoop hasEdge endingIn regionAt opensRegion singleEntry escapes outsideJump plainLines shownLines bodyCount closingLines loopLines flatLines flatBlock testBlock
+example = refl
+
+-- "(j) self-loop: if-goto, no do"
+self-loop : planOf
+    (0 ∷ 2 ∷ 0 ∷ 2 ∷ 1 ∷ 2 ∷ 0 ∷ 0 ∷ 2 ∷ 1 ∷ 2 ∷ 0 ∷ 0 ∷ 0 ∷ 65535 ∷ 0 ∷ [])
+    (0 ∷ 1 ∷ 1 ∷ 2 ∷ []) (1 ∷ 0 ∷ 1 ∷ []) (bytes 0 (bytes 4 [])) (bytes 0 (bytes 4 [])) 2 0 2 1
+    ≡ line insn-line 0 0 1 ∷ line if-goto 0 1 1 ∷ line insn-line 1 2 1 ∷ []
+unfolding rangeLines rangeGo shapeAt lastLoop lastFrom closesLoop hasEdge endingIn regionAt opensRegion singleEntry escapes outsideJump plainLines shownLines bodyCount closingLines loopLines flatLines flatBlock testBlock
+self-loop = refl
+
+-- two blocks, the second with a True edge back to the first; both want a label, and the head gets none
+do-loop : planOf
+    (0 ∷ 1 ∷ 0 ∷ 1 ∷ 1 ∷ 0 ∷ 65535 ∷ 0 ∷ 1 ∷ 2 ∷ 1 ∷ 2 ∷ 1 ∷ 2 ∷ 0 ∷ 0 ∷ 3 ∷ 1 ∷ 3 ∷ 0 ∷ 0 ∷ 0 ∷ 65535 ∷ 0 ∷ [])
+    (1 ∷ 3 ∷ 0 ∷ 1 ∷ 2 ∷ 2 ∷ []) (1 ∷ 1 ∷ 0 ∷ 1 ∷ []) (bytes 0 (bytes 4 (bytes 16 []))) (bytes 4 (bytes 0 (bytes 16 []))) 3 0 3 1
+    ≡ line do-line 0 0 1 ∷ line insn-line 0 0 2 ∷ line label-line 1 0 1 ∷ line insn-line 1 1 2 ∷ line while-line 1 2 1 ∷ line insn-line 2 3 1 ∷ []
+unfolding rangeLines rangeGo shapeAt lastLoop lastFrom closesLoop hasEdge endingIn regionAt opensRegion singleEntry escapes outsideJump plainLines shownLines bodyCount closingLines loopLines flatLines flatBlock testBlock
+do-loop = refl
