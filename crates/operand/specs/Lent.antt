@@ -9,7 +9,11 @@ use Rattle.record.specs.declared.header.Header.{Header}
 use Rattle.record.specs.Layout.{entriesOf}
 use Rattle.record.specs.Atlas.{entryAddress}
 
+-- atlas addresses rise
+abbrev pub Rising : Header → List ℕ → Type 0
+Rising h s = (k : ℕ) → suc k < h .atlas → entryAddress (entriesOf h s) k < entryAddress (entriesOf h s) (suc k)
+
 pub record Lent (words isa : List ℕ) (h : Header) (s : List ℕ) : Type 0 where
   pub words-are : words ≡ wordBytes
   pub isa-is : isa ≡ isaBytes
-  pub rising : (k : ℕ) → suc k < h .atlas → entryAddress (entriesOf h s) k < entryAddress (entriesOf h s) (suc k)
+  pub rising : Rising h s

@@ -4,3 +4,6 @@ pub mod Memory
 pub mod Operand
 pub mod Alike
 pub mod Lent
+pub mod Sized
+pub mod Accepted
+pub mod Export

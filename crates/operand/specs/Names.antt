@@ -1,7 +1,7 @@
 -- `name_or`: what stands for an address. "A string gives one Address token .. A name is copied without escaping. No entry: prefix
 -- and upper hex."
 use Prim.Native.Nat.{ℕ, zero, suc, _+_}
-use mathlib.Core.Bool.{Bool, true, false, _&&_, _||_}
+use mathlib.Core.Bool.{Bool, true, false, not, _&&_, _||_}
 use mathlib.Core.List.{List}
 use lib.Dec.{eqb, leb}
 use Rattle.lists.specs.Choice.{pick, anyBelow}
@@ -41,6 +41,11 @@ module _ (h : Header) (s : List ℕ) where
   -- whether a literal stands for the address
   abbrev pub isLiteral : ℕ → Bool
   isLiteral va = eqb (nameOr va 101 .kind) 5
+
+  -- the same of what a search found: an entry that is no name
+  abbrev pub literalAt : Entry → Bool
+  literalAt (At k) = not (eqb (entryKind (pairsOf h s) k) 3)
+  literalAt Nothing = false
 
   -- the address lies in a span, "both included"
   unfoldable pub inSpan : ℕ → Bool

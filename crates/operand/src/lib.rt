@@ -1,2 +1,7 @@
 // Operands: names of addresses, memory, immediates.
+pub mod export;
+pub mod memory;
 pub mod names;
+pub mod numbers;
+pub mod operand;
+pub mod slots;

@@ -1,7 +1,149 @@
-// Names of addresses.
+// Names of addresses: the atlas searched by halving, the token of what was found, and the spans.
+use lists::parts::part;
+use lists::reads::from;
+use record::atlas::entry_address;
+use record::atlas::entry_kind;
+use record::atlas::entry_length;
+use record::atlas::span_first;
+use record::atlas::span_last;
+use record::atlas::text_start;
+use record::header::Header;
+use record::layout::entries_at;
+use record::layout::pairs_at;
+use record::layout::spans_at;
+use record::layout::texts_at;
+use tokens::pen::Pen;
+use tokens::push::push_bytes;
+use tokens::push::push_literal;
+use tokens::push::push_prefixed;
+ghost use mathlib.Core.List.{[], _∷_};
+ghost use mathlib.Core.Path.{_≡_};
+ghost use Rattle.tokens.specs.Sheet.{sheet, push, pushes};
+ghost use Rattle.tokens.specs.Words.{wordBytes};
+ghost use Rattle.operand.specs.Names.{entryAt, entryToken, nameOrAt, nameOr, literalAt, inSpan};
+ghost use Rattle.operand.specs.Lent.{Rising, Lent};
 
 // An entry of the atlas that a search found.
 pub enum Entry {
     At(u16),
     Nothing,
+}
+
+// The entry at an address, by halving: those below `low` stand before the address, those from `high` on behind it.
+pub fn entry_at(rec: &[u8], h: Header, va: u64) -> Entry
+    requires { ⌜ Rising h (now rec) ⌝ }
+    ensures { λ r. ⌜ r ≡ entryAt h (now (rec .entry)) va ⌝ }
+{
+    let entries = from(rec, entries_at(h));
+    let mut low: u16 = 0;
+    let mut high = h.atlas;
+    while low < high {
+        let mid = low + (high - low) / 2;
+        let a = entry_address(entries, mid);
+        if a == va {
+            return Entry::At(mid);
+        }
+        if a < va {
+            low = mid + 1;
+        } else {
+            high = mid;
+        }
+    }
+    Entry::Nothing
+}
+
+// Whether a literal stands for what was found.
+pub fn is_literal(rec: &[u8], h: Header, found: Entry) -> bool
+    ensures { λ r. ⌜ r ≡ literalAt h (now (rec .entry)) found ⌝ }
+{
+    match found {
+        Entry::At(k) => entry_kind(from(rec, pairs_at(h)), k) != 3,
+        Entry::Nothing => false,
+    }
+}
+
+// The token of entry k.
+fn push_text(
+    text: &mut [u8],
+    ends: &mut [u32],
+    kinds: &mut [u8],
+    pen: Pen,
+    rec: &[u8],
+    h: Header,
+    k: u16,
+) -> Pen
+    ensures { λ r. ⌜ sheet (now (text .exit)) (now (ends .exit)) (now (kinds .exit)) r
+        ≡ push (sheet (now (text .entry)) (now (ends .entry)) (now (kinds .entry)) pen) (entryToken h (now (rec .entry)) k) ⌝ }
+{
+    let pairs = from(rec, pairs_at(h));
+    let kind = entry_kind(pairs, k);
+    let t = part(
+        from(rec, texts_at(h)),
+        text_start(pairs, k),
+        entry_length(pairs, k) as usize,
+    );
+    if kind == 3 {
+        return push_bytes(text, ends, kinds, pen, 4, t);
+    }
+    push_literal(text, ends, kinds, pen, kind == 2, t)
+}
+
+// The token of what was found at an address, with word w as the prefix where nothing was.
+pub fn push_found(
+    text: &mut [u8],
+    ends: &mut [u32],
+    kinds: &mut [u8],
+    pen: Pen,
+    words: &[u8],
+    rec: &[u8],
+    h: Header,
+    found: Entry,
+    va: u64,
+    w: u8,
+) -> Pen
+    requires { ⌜ now words ≡ wordBytes ⌝ }
+    ensures { λ r. ⌜ sheet (now (text .exit)) (now (ends .exit)) (now (kinds .exit)) r
+        ≡ push (sheet (now (text .entry)) (now (ends .entry)) (now (kinds .entry)) pen) (nameOrAt h (now (rec .entry)) found va w) ⌝ }
+{
+    match found {
+        Entry::At(k) => push_text(text, ends, kinds, pen, rec, h, k),
+        Entry::Nothing => push_prefixed(text, ends, kinds, pen, words, w, va),
+    }
+}
+
+// The token for an address.
+pub fn name_or(
+    text: &mut [u8],
+    ends: &mut [u32],
+    kinds: &mut [u8],
+    pen: Pen,
+    words: &[u8],
+    isa: &[u8],
+    rec: &[u8],
+    h: Header,
+    va: u64,
+    w: u8,
+) -> Pen
+    requires { ⌜ Lent (now words) (now isa) h (now rec) ⌝ }
+    ensures { λ r. ⌜ sheet (now (text .exit)) (now (ends .exit)) (now (kinds .exit)) r
+        ≡ pushes (sheet (now (text .entry)) (now (ends .entry)) (now (kinds .entry)) pen) (nameOr h (now (rec .entry)) va w ∷ []) ⌝ }
+{
+    let found = entry_at(rec, h, va);
+    push_found(text, ends, kinds, pen, words, rec, h, found, va, w)
+}
+
+// Whether an address lies in a span.
+pub fn in_span(rec: &[u8], h: Header, va: u64) -> bool
+    ensures { λ r. ⌜ r ≡ inSpan h (now (rec .entry)) va ⌝ }
+{
+    let spans = from(rec, spans_at(h));
+    let n = h.spans;
+    let mut k: u16 = 0;
+    while k < n {
+        if (span_first(spans, k) <= va) & (va <= span_last(spans, k)) {
+            return true;
+        }
+        k += 1;
+    }
+    false
 }

@@ -1,0 +1,177 @@
+-- Which of the cases of a memory operand, an immediate or an operand is meant.
+-- Each test that was made picks its case.
+use mathlib.Core.Path.{_≡_, refl, sym, ap, _∙_}
+use mathlib.Core.Bool.{Bool, true, false, _&&_, _||_}
+use mathlib.Core.List.{List, [], _∷_}
+use Prim.Native.Nat.{ℕ, _^_, _%_, _≤_, _<_}
+use native.Mathlib.Nat.{mod-lt}
+use native.Mathlib.Omega.{arith}
+use borrow.Author.Tests.{le-leb, lt-leb}
+use lib.Dec.{eqb, leb}
+use lib.IntN.{ℤ, pos, natAbs}
+use mir.Syntax.{w64}
+use mir.Val.{toZ, ofZ, SFits}
+use mir.ValLaws.{toZ-ofZ}
+use Rattle.lists.specs.Choice.{pick}
+use Rattle.lists.specs.Signed.{i32Of, i64Of}
+use Rattle.lists.specs.SignedLaws.{i32-fits}
+use Rattle.text.specs.Number.{numText}
+use Rattle.tokens.specs.Token.{Token, token, plainText}
+use Rattle.tokens.specs.Words.{words, wordToken}
+use Rattle.record.specs.declared.header.Header.{Header}
+use Rattle.record.specs.Body.{operandKind, operandRegister, operandNumber}
+use Rattle.x86.specs.Sizes.{sizeIndex, prefixIndex}
+use Rattle.operand.specs.Expr.{Expr, tight}
+use Rattle.operand.specs.Names.{nameOr, inSpan}
+use Rattle.operand.specs.Memory.{registerToken, number, isSegmentRead, isGlobal, isSlot, segmentRead, global, slotToken, addressOf, address, addressExpr, memExpr, memTokens}
+use Rattle.operand.specs.Operand.{signedRead, inWindow, immediateNumber, immediate, opTokens}
+use Rattle.operand.specs.Sized.{windowRead}
+use Rattle.operand.proofs.Integers.{i64-fits, wide}
+use Rattle.operand.proofs.Pushes.{yes-is, no-is}
+
+pub yes-of : {A : Type 0} (t : Bool) (x y : A) → t ≡ true → pick t x y ≡ x
+yes-of t x y e = rw e
+
+pub no-of : {A : Type 0} (t : Bool) (x y : A) → t ≡ false → pick t x y ≡ y
+no-of t x y e = rw e
+
+-- a test b that was made as t
+pub made : (t u b : Bool) → t ≡ b → t ≡ u → b ≡ u
+made t u b p q = sym p ∙ q
+
+module _ (h : Header) (s b : List ℕ) (deref : Bool) where
+  abbrev third : Expr
+  third = pick (isSlot h b) (tight (addressOf deref (slotToken h b))) (address h s deref b)
+
+  abbrev second : Expr
+  second = pick (isGlobal h s b) (tight (global h s deref b)) third
+
+  pub is-segment : isSegmentRead h s b ≡ true → segmentRead h s b ≡ memTokens h s deref b
+  unfolding memTokens memExpr
+  is-segment e = sym (ap (λ (x : Expr). x .tokens) (yes-of (isSegmentRead h s b) (tight (segmentRead h s b)) second e))
+
+  module _ (p : isSegmentRead h s b ≡ false) where
+    others : memExpr h s deref b ≡ second
+    unfolding memExpr
+    others = no-of (isSegmentRead h s b) (tight (segmentRead h s b)) second p
+
+    pub is-global : isGlobal h s b ≡ true → global h s deref b ≡ memTokens h s deref b
+    unfolding memTokens
+    is-global e = sym (ap (λ (x : Expr). x .tokens) (others ∙ yes-of (isGlobal h s b) (tight (global h s deref b)) third e))
+
+    module _ (q : isGlobal h s b ≡ false) where
+      pub is-slot : isSlot h b ≡ true → addressOf deref (slotToken h b) ≡ memTokens h s deref b
+      unfolding memTokens
+      is-slot e =
+          sym (ap (λ (x : Expr). x .tokens)
+          (others ∙ (no-of (isGlobal h s b) (tight (global h s deref b)) third q ∙ yes-of (isSlot h b) (tight (addressOf deref (slotToken h b))) (address h s deref b) e)))
+
+      pub is-address : isSlot h b ≡ false → address h s deref b .tokens ≡ memTokens h s deref b
+      unfolding memTokens
+      is-address e =
+          sym (ap (λ (x : Expr). x .tokens)
+          (others ∙ (no-of (isGlobal h s b) (tight (global h s deref b)) third q ∙ no-of (isSlot h b) (tight (addressOf deref (slotToken h b))) (address h s deref b) e)))
+
+-- read, or as an address
+pub is-read : (h : Header) (s b : List ℕ) (deref : Bool) → deref ≡ true → address h s true b .tokens ≡ address h s deref b .tokens
+is-read h s b deref e = rw e
+
+pub is-plain : (h : Header) (s b : List ℕ) (deref : Bool) → deref ≡ false → addressExpr h b .tokens ≡ address h s deref b .tokens
+is-plain h s b deref e = rw e
+
+-- the window is asked of a number that fits, and of no other than the definition's
+window-fits : (kind v : ℕ) → v < 2 ^ 64 → SFits w64 (windowRead kind v)
+unfolding windowRead
+window-fits kind v h = go (eqb kind 6 || eqb kind 9 || eqb kind 10) (eqb kind 5 || eqb kind 8)
+  where
+    go : (a b : Bool) → SFits w64 (pick a (i64Of v) (pick b (i32Of (v % 4294967296)) (pos 0)))
+    go true b = i64-fits v h
+    go false true = wide _ (i32-fits (v % 4294967296) (mod-lt v (omega arith)))
+    go false false = record { sfits = omega arith }
+
+window-same : (kind v : ℕ) → pick (inWindow (windowRead kind v)) (number true (natAbs (windowRead kind v))) (number false v) ≡ immediateNumber kind v
+unfolding windowRead immediateNumber signedRead
+window-same kind v = go (eqb kind 6 || eqb kind 9 || eqb kind 10) (eqb kind 5 || eqb kind 8)
+  where
+    by : ℤ → Token
+    by z = pick (inWindow z) (number true (natAbs z)) (number false v)
+
+    go : (a b : Bool) → by (pick a (i64Of v) (pick b (i32Of (v % 4294967296)) (pos 0))) ≡ by (pick a (i64Of v) (pick b (i32Of (v % 4294967296)) (pos v)))
+    go true b = refl
+    go false true = refl
+    go false false = refl
+
+module _ (kind v : ℕ) (z : ℤ) (w : Bool) (f : v < 2 ^ 64) (p : z ≡ windowRead kind v) (q : w ≡ inWindow (toZ w64 (ofZ w64 z))) where
+  back : toZ w64 (ofZ w64 z) ≡ windowRead kind v
+  back = rw p (toZ-ofZ w64 (windowRead kind v) (window-fits kind v f))
+
+  asked : w ≡ inWindow (windowRead kind v)
+  asked = q ∙ ap inWindow back
+
+  pub in-window : w ≡ true → (m : ℕ) → m ≡ natAbs (toZ w64 (ofZ w64 z)) → token 2 (numText true m) ≡ immediateNumber kind v
+  in-window e m r =
+      ap (λ (n : ℕ). number true n) (r ∙ ap natAbs back)
+      ∙ (sym (yes-of (inWindow (windowRead kind v)) (number true (natAbs (windowRead kind v))) (number false v) (sym asked ∙ e)) ∙ window-same kind v)
+
+  pub not-in-window : w ≡ false → token 2 (numText false v) ≡ immediateNumber kind v
+  not-in-window e = sym (no-of (inWindow (windowRead kind v)) (number true (natAbs (windowRead kind v))) (number false v) (sym asked ∙ e)) ∙ window-same kind v
+
+module _ (h : Header) (s : List ℕ) (kind v : ℕ) where
+  pub in-span : (leb 0x1000 v && inSpan h s v) ≡ true → nameOr h s v 96 ∷ [] ≡ immediate h s kind v ∷ []
+  unfolding immediate
+  in-span e = ap {B = List Token} (λ t. t ∷ []) (sym (yes-of (leb 0x1000 v && inSpan h s v) (nameOr h s v 96) (immediateNumber kind v) e))
+
+  pub not-in-span : (leb 0x1000 v && inSpan h s v) ≡ false → immediateNumber kind v ∷ [] ≡ immediate h s kind v ∷ []
+  unfolding immediate
+  not-in-span e = ap {B = List Token} (λ t. t ∷ []) (sym (no-of (leb 0x1000 v && inSpan h s v) (nameOr h s v 96) (immediateNumber kind v) e))
+
+-- k is the operand's kind
+module _ (h : Header) (s b : List ℕ) (i k : ℕ) (p : k ≡ operandKind b i) where
+  pub op-register-is : k ≡ 0 → (r : ℕ) → r ≡ operandRegister b i → registerToken r ∷ [] ≡ opTokens h s b i
+  unfolding opTokens
+  op-register-is e r q = rw (q, yes-is k (operandKind b i) 0 p e)
+
+  module _ (a : k ≡ 0 → ⊥) where
+    pub op-memory-is : k ≡ 1 → memTokens h s true b ≡ opTokens h s b i
+    unfolding opTokens
+    op-memory-is e = rw (no-is k (operandKind b i) 0 p a, yes-is k (operandKind b i) 1 p e)
+
+    module _ (c : k ≡ 1 → ⊥) (v : ℕ) (q : v ≡ operandNumber b i) where
+      pub op-branch-is : k ≡ 2 → nameOr h s v 94 ∷ [] ≡ opTokens h s b i
+      unfolding opTokens
+      op-branch-is e = rw (no-is k (operandKind b i) 0 p a, no-is k (operandKind b i) 1 p c, yes-is k (operandKind b i) 2 p e, q)
+
+      pub op-immediate-is : (k ≡ 2 → ⊥) → k ≤ 10 → immediate h s k v ∷ [] ≡ opTokens h s b i
+      unfolding opTokens
+      op-immediate-is d e =
+          let l : leb (operandKind b i) 10 ≡ true = le-leb (operandKind b i) 10 (omega arith) in
+          rw (no-is k (operandKind b i) 0 p a, no-is k (operandKind b i) 1 p c, no-is k (operandKind b i) 2 p d, l, q, p)
+
+    pub op-other-is : (k ≡ 1 → ⊥) → (k ≡ 2 → ⊥) → 10 < k → wordToken 42 ∷ [] ≡ opTokens h s b i
+    unfolding opTokens wordToken words
+    op-other-is c d e =
+        let l : leb (operandKind b i) 10 ≡ false = lt-leb (operandKind b i) 10 (omega arith) in
+        rw (no-is k (operandKind b i) 0 p a, no-is k (operandKind b i) 1 p c, no-is k (operandKind b i) 2 p d, l)
+
+-- the words of sizes end with the table
+pub prefix-small : (n : ℕ) → prefixIndex n ≤ 4
+prefix-small n = go (eqb n 1) (eqb n 2) (eqb n 4) (eqb n 8)
+  where
+    go : (a b c d : Bool) → pick a 0 (pick b 1 (pick c 2 (pick d 3 4))) ≤ 4
+    go true b c d = omega arith
+    go false true c d = omega arith
+    go false false true d = omega arith
+    go false false false true = omega arith
+    go false false false false = omega arith
+
+pub size-small : (n : ℕ) → sizeIndex n ≤ 6
+size-small n = go (eqb n 1) (eqb n 2) (eqb n 4) (eqb n 8) (eqb n 16) (eqb n 32)
+  where
+    go : (a b c d e f : Bool) → pick a 0 (pick b 1 (pick c 2 (pick d 3 (pick e 4 (pick f 5 6))))) ≤ 6
+    go true b c d e f = omega arith
+    go false true c d e f = omega arith
+    go false false true d e f = omega arith
+    go false false false true e f = omega arith
+    go false false false false true f = omega arith
+    go false false false false false true = omega arith
+    go false false false false false false = omega arith

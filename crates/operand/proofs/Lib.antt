@@ -1,0 +1,6 @@
+pub mod Search
+pub mod Entries
+pub mod Integers
+pub mod Pushes
+pub mod Choices
+pub mod Exports
