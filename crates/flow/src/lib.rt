@@ -1,1 +1,2 @@
 // The flow of a record: rows of numbers for its blocks, edges and instructions, and the plan of a range.
+pub mod silent;
