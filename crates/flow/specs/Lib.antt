@@ -1,3 +1,5 @@
 pub mod Silent
 pub mod Rows
+pub mod Counted
+pub mod Laws
 pub mod Planned

@@ -1,2 +1,3 @@
 // The flow of a record: rows of numbers for its blocks, edges and instructions, and the plan of a range.
+pub mod rows;
 pub mod silent;

@@ -1,0 +1,28 @@
+-- The laws of rows: how many numbers they have, and which number stands where.
+-- By induction on the number of rows, each of one length.
+use Prim.Native.Nat.{ℕ, zero, suc, _+_, _*_, _<_}
+use mathlib.Core.List.{List, _++_}
+use mathlib.Core.Path.{_≡_, _∙_}
+use native.Mathlib.Nat.{not-suc-le-zero, add-zero, mul-suc, mul-zero}
+use native.Mathlib.Omega.{arith}
+use lib.ListN.{length, getD, length-append, List·getD-append}
+use lib.Seq.{getD-append-add}
+use Rattle.flow.specs.Rows.{rowsFrom}
+
+module _ (f : ℕ → List ℕ) (w : ℕ) (sized : (k : ℕ) → length (f k) ≡ w) where
+  pub rows-length : (k n : ℕ) → length (rowsFrom f k n) ≡ w * n
+  unfolding rowsFrom
+  rows-length k zero = omega arith
+  rows-length k (suc n) = rw length-append (omega (arith, sized k, rows-length (suc k) n, mul-suc w n))
+
+  -- number i of row j
+  pub rows-at : (k n j i : ℕ) → j < n → i < w → getD (rowsFrom f k n) (w * j + i) 0 ≡ getD (f (k + j)) i 0
+  unfolding rowsFrom
+  rows-at k zero j i h g = absurd (not-suc-le-zero h)
+  rows-at k (suc n) zero i h g =
+      let e : w * 0 + i ≡ i = omega (arith, mul-zero w) in
+      rw (e, add-zero) (List·getD-append (f k) (rowsFrom f (suc k) n) 0 i (omega (arith, sized k)))
+  rows-at k (suc n) (suc j) i h g =
+      let e : w * suc j + i ≡ length (f k) + (w * j + i) = omega (arith, mul-suc w j, sized k) in
+      let d : k + suc j ≡ suc k + j = omega arith in
+      rw (e, d) (getD-append-add (f k) (rowsFrom f (suc k) n) (w * j + i) 0 ∙ rows-at (suc k) n j i (omega arith) g)
