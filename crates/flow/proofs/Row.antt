@@ -52,9 +52,9 @@ module _ (h : Header) (s : List ℕ) where
         let u = ending-is last x t e in
         r ∙ rw (branch-is last x y t u f, u, a, p, g)
 
-  pub row-stored : (k : ℕ) (l l₁ l₂ : List ℕ) (first n edge m z : ℕ) → first ≡ firstInstruction (marksOf h s) k → n ≡ instructionsIn (marksOf h s) k
-      → edge ≡ firstEdge (marksOf h s) k → m ≡ edgesIn (marksOf h s) k → z ≡ k → l₁ ≡ put (8 * z) (first ∷ n ∷ edge ∷ m ∷ []) l
+  pub row-stored : (k : ℕ) (marks l l₁ l₂ : List ℕ) (first n edge m z : ℕ) → marks ≡ marksOf h s → first ≡ firstInstruction marks k → edge ≡ firstEdge marks k
+      → n ≡ instructionsIn marks k → m ≡ edgesIn marks k → z ≡ k → l₁ ≡ put (8 * z) (first ∷ n ∷ edge ∷ m ∷ []) l
       → l₂ ≡ put (8 * k + 4) (rowEnding h s k) l₁ → l₂ ≡ put (8 * k) (blockRow h s k) l
   unfolding blockRow
-  row-stored k l l₁ l₂ first n edge m z a b c d e p q =
-      q ∙ rw (p, e) (sym (put-append (8 * k) (first ∷ n ∷ edge ∷ m ∷ []) (rowEnding h s k) l) ∙ rw (a, b, c, d))
+  row-stored k marks l l₁ l₂ first n edge m z f a b c d e p q =
+      q ∙ rw (p, e) (sym (put-append (8 * k) (first ∷ n ∷ edge ∷ m ∷ []) (rowEnding h s k) l) ∙ rw (a, b, c, d, f))

@@ -2,7 +2,7 @@
 use Prim.Native.Nat.{ℕ, zero, suc, _+_, _≤_, _<_}
 use mathlib.Core.Bool.{Bool, true, false, _&&_}
 use mathlib.Core.List.{List, [], _∷_}
-use mathlib.Core.Path.{_≡_, refl}
+use mathlib.Core.Path.{_≡_, refl, ap, _∙_}
 use native.Mathlib.Nat.{not-suc-le-zero}
 use native.Mathlib.Decide.{decLe}
 use native.Mathlib.Omega.{arith}
@@ -46,13 +46,17 @@ module _ (marks : List ℕ) (k n : ℕ) (h : k < n) where
   edges-within = sum-grows (edgesIn marks) (suc k) n h
 
 -- the running indexes fit where the totals do
-module _ (h : Header) (s : List ℕ) (t : Counted h s) (k : ℕ) (below : k < h .blocks) where
-  pub block-has : (first n : ℕ) → h .instructions < 65536 → first ≡ firstInstruction (marksOf h s) k → n ≡ instructionsIn (marksOf h s) k → BlockHas h s k first n
+module _ (h : Header) (s : List ℕ) (t : Counted h s) (k : ℕ) (below : k < h .blocks) (marks : List ℕ) (e : marks ≡ marksOf h s) where
+  pub block-has : (first n : ℕ) → h .instructions < 65536 → first ≡ firstInstruction marks k → n ≡ instructionsIn marks k → BlockHas h s k first n
   block-has first n i p q =
-      record { begins = p; many = q; fits = omega (arith, instructions-within (marksOf h s) k (h .blocks) below, t .instructions) }
+      let a = p ∙ ap (λ (m : List ℕ). firstInstruction m k) e in
+      let b = q ∙ ap (λ (m : List ℕ). instructionsIn m k) e in
+      record { begins = a; many = b; fits = omega (arith, instructions-within (marksOf h s) k (h .blocks) below, t .instructions) }
 
-  pub edges-fit : (edge m : ℕ) → h .edges < 65536 → edge ≡ firstEdge (marksOf h s) k → m ≡ edgesIn (marksOf h s) k → edge + m < 65536
-  edges-fit edge m i p q = omega (arith, edges-within (marksOf h s) k (h .blocks) below, t .edges)
+  pub edges-fit : (edge m : ℕ) → h .edges < 65536 → edge ≡ firstEdge marks k → m ≡ edgesIn marks k → edge + m < 65536
+  edges-fit edge m i p q =
+      let a = ap (λ (m : List ℕ). firstEdge m (h .blocks)) e in
+      omega (arith, edges-within marks k (h .blocks) below, t .edges)
 
 both : (a b : Bool) → (a && b) ≡ true → (a ≡ true) × (b ≡ true)
 both true b h = (refl, h)

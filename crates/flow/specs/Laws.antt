@@ -2,8 +2,8 @@
 -- By induction on the number of rows, each of one length.
 use Prim.Native.Nat.{ℕ, zero, suc, _+_, _*_, _<_}
 use mathlib.Core.List.{List, _++_}
-use mathlib.Core.Path.{_≡_, _∙_}
-use native.Mathlib.Nat.{not-suc-le-zero, add-zero, mul-suc, mul-zero}
+use mathlib.Core.Path.{_≡_, ap, _∙_}
+use native.Mathlib.Nat.{not-suc-le-zero, add-zero, zero-add, mul-suc, mul-zero}
 use native.Mathlib.Omega.{arith}
 use lib.ListN.{length, getD, length-append, List·getD-append}
 use lib.Seq.{getD-append-add}
@@ -26,3 +26,7 @@ module _ (f : ℕ → List ℕ) (w : ℕ) (sized : (k : ℕ) → length (f k) �
       let e : w * suc j + i ≡ length (f k) + (w * j + i) = omega (arith, mul-suc w j, sized k) in
       let d : k + suc j ≡ suc k + j = omega arith in
       rw (e, d) (getD-append-add (f k) (rowsFrom f (suc k) n) (w * j + i) 0 ∙ rows-at (suc k) n j i (omega arith) g)
+
+  -- number i of row k, of all rows
+  pub row-at : (n k i : ℕ) → k < n → i < w → getD (rowsFrom f 0 n) (w * k + i) 0 ≡ getD (f k) i 0
+  row-at n k i h g = rows-at 0 n k i h g ∙ ap (λ (j : ℕ). getD (f j) i 0) (zero-add k)

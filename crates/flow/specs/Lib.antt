@@ -2,4 +2,5 @@ pub mod Silent
 pub mod Rows
 pub mod Counted
 pub mod Laws
+pub mod Terms
 pub mod Planned

@@ -35,12 +35,12 @@ ghost use Rattle.flow.specs.Counted.{Counted, BlockHas, rowEnding};
 fn place_in(starts: &[u8], blocks: u16, va: u64) -> u16
     ensures { λ r. ⌜ r ≡ placeFrom (now (starts .entry)) va 0 blocks ⌝ }
 {
-    let mut k: u16 = 0;
-    while k < blocks {
-        if start_at(starts, Place(k)).0 == va {
-            return k;
+    let mut place: u16 = 0;
+    while place < blocks {
+        if start_at(starts, Place(place)).0 == va {
+            return place;
         }
-        k += 1;
+        place += 1;
     }
     65535
 }

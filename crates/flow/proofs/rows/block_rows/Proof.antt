@@ -6,8 +6,7 @@ use native.Mathlib.Omega.{arith}
 use borrow.Author.Needs.{needs}
 use Rattle.flow.specs.Rows.{blockRow, blockRows}
 use Rattle.record.specs.Layout.{marksOf}
-use Rattle.record.specs.Blocks.{instructionsIn, edgesIn, firstInstruction, firstEdge}
-use mathlib.Core.List.{List}
+use Rattle.record.specs.Blocks.{firstInstruction, firstEdge}
 use Rattle.record.specs.Running.{instruction-more, edge-more}
 use Rattle.flow.specs.Counted.{block-has, edges-fit}
 use Rattle.flow.proofs.Storing.{Left, left-all, left-length, left-step, left-done}
@@ -26,7 +25,7 @@ use Rattle.record.proofs.layout.size.Reads as size-reads
 
 abbrev Inv-loop : tie.InvT-loop
 Inv-loop rec h out₀ marks first₀ edge₀ k₀ out first edge k =
-    (k ≤ h .blocks) × (marks ≡ marksOf h rec) × (first ≡ firstInstruction (marksOf h rec) k) × (edge ≡ firstEdge (marksOf h rec) k)
+    (k ≤ h .blocks) × (marks ≡ marksOf h rec) × (first ≡ firstInstruction marks k) × (edge ≡ firstEdge marks k)
     × Left (blockRow h rec) (h .blocks) out₀ (8 * k) out k
 
 abbrev μ-loop : tie.MeasureT-loop
@@ -65,21 +64,21 @@ put-ending-requires c κs =
     let l = c .before .before .before .before .before .before .before .before .before .before in
     let v = l .loop .inv in
     let s = l .before .before .before .before .before in
-    block-has _ _ (s .pre) _ (c .before .before .before .before .before .before .before .before .if1 .taken) _ _ (omega arith) (v .2) (c .before .before .before .before .before .before .before .instructions-in .ensures .0 ∙ ap (λ (m : List ℕ). instructionsIn m (l .loop .k)) (v .1))
+    block-has _ _ (s .pre) _ (c .before .before .before .before .before .before .before .before .if1 .taken) _ (v .1) _ _ (omega arith) (v .2) (c .before .before .before .before .before .before .before .instructions-in .ensures .0)
 
 add-first : tie.Need-add-first Inv-loop μ-loop
 add-first c =
     let l = c .before .before .before .before .before .before .before .before .before .before .before .before .before in
     let v = l .loop .inv in
     let s = l .before .before .before .before .before in
-    omega (arith, block-has _ _ (s .pre) _ (c .before .before .before .before .before .before .before .before .before .before .before .if1 .taken) _ _ (omega arith) (v .2) (c .before .before .before .before .before .before .before .before .before .before .instructions-in .ensures .0 ∙ ap (λ (m : List ℕ). instructionsIn m (l .loop .k)) (v .1)) .fits)
+    omega (arith, block-has _ _ (s .pre) _ (c .before .before .before .before .before .before .before .before .before .before .before .if1 .taken) _ (v .1) _ _ (omega arith) (v .2) (c .before .before .before .before .before .before .before .before .before .before .instructions-in .ensures .0) .fits)
 
 add-edge : tie.Need-add-edge Inv-loop μ-loop
 add-edge c =
     let l = c .before .before .before .before .before .before .before .before .before .before .before .before .before in
     let v = l .loop .inv in
     let s = l .before .before .before .before .before in
-    omega (arith, edges-fit _ _ (s .pre) _ (c .before .before .before .before .before .before .before .before .before .before .before .if1 .taken) _ _ (omega arith) (v .3) (c .before .before .before .before .before .before .before .before .before .edges-in .ensures .0 ∙ ap (λ (m : List ℕ). edgesIn m (l .loop .k)) (v .1)))
+    omega (arith, edges-fit _ _ (s .pre) _ (c .before .before .before .before .before .before .before .before .before .before .before .if1 .taken) _ (v .1) _ _ (omega arith) (v .3) (c .before .before .before .before .before .before .before .before .before .edges-in .ensures .0))
 
 add-k : tie.Need-add-k Inv-loop μ-loop
 add-k c = search needs
@@ -93,15 +92,13 @@ loop-again c =
     let l = c .before .before .before .before .before .before .before .before .before .before .before .before .before in
     let v = l .loop .inv in
     let a = l .before .before .before .before .before .args in
-    let k = l .loop .k in
-    let n = c .before .before .before .before .before .before .before .before .before .before .instructions-in .ensures .0 ∙ ap (λ (m : List ℕ). instructionsIn m k) (v .1) in
-    let m = c .before .before .before .before .before .before .before .before .before .edges-in .ensures .0 ∙ ap (λ (m : List ℕ). edgesIn m k) (v .1) in (
+    let s = c .before .before .before .before .before .before in (
       search needs,
       v .1,
       rw instruction-more (omega arith),
       rw edge-more (omega arith),
       left-step (v .4) (c .before .before .before .before .before .before .before .before .before .before .before .if1 .taken) (omega arith)
-          (row-stored (a .h) (a .rec .now) k (l .loop .out) _ _ _ _ _ _ _ (v .2) n (v .3) m (c .before .before .before .before .before .before .before .size .ensures .0) (c .before .before .before .before .before .before .put-four .ensures) (c .before .before .put-ending .ensures)),
+          (row-stored (a .h) (a .rec .now) _ _ (l .loop .out) _ _ _ _ _ _ _ (v .1) (v .2) (v .3) (s .before .before .before .before .instructions-in .ensures .0) (s .before .before .before .edges-in .ensures .0) (s .before .size .ensures .0) (s .put-four .ensures) (c .before .before .put-ending .ensures)),
     )
 
 same-length : tie.Need-same-length Inv-loop μ-loop

@@ -13,10 +13,10 @@ use Rattle.flow.proofs.rows.place_in.Lts as lts
 use Rattle.record.proofs.blocks.start_at.Reads as start-at-reads
 
 abbrev Inv-loop : tie.InvT-loop
-Inv-loop starts blocks va k₀ k = (k ≤ blocks) × (placeFrom starts va k (blocks - k) ≡ placeFrom starts va 0 blocks)
+Inv-loop starts blocks va place₀ place = (place ≤ blocks) × (placeFrom starts va place (blocks - place) ≡ placeFrom starts va 0 blocks)
 
 abbrev μ-loop : tie.MeasureT-loop
-μ-loop starts blocks va k₀ k = blocks - k
+μ-loop starts blocks va place₀ place = blocks - place
 
 loop-holds : tie.Need-loop-holds Inv-loop μ-loop
 loop-holds c = (search needs, place-all _ _ _)
@@ -29,8 +29,8 @@ returns c =
     let l = c .before .before .before .before in
     sym (place-here _ _ _ _ (c .before .before .before .loop-test .taken) (sym (c .before .before .start-at .ensures) ∙ c .if1 .taken)) ∙ l .loop .inv .1
 
-add-k : tie.Need-add-k Inv-loop μ-loop
-add-k c = search needs
+add-place : tie.Need-add-place Inv-loop μ-loop
+add-place c = search needs
 
 loop-less : tie.Need-loop-less Inv-loop μ-loop
 loop-less c = search needs
@@ -52,7 +52,7 @@ place-in-spec =
     loop-holds
     start-at-requires
     returns
-    add-k
+    add-place
     loop-less
     loop-again
     returns-2)
