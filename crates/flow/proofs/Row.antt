@@ -1,6 +1,6 @@
 -- One turn of each loop over rows: what was read and stored is the record's row.
 -- Each premise is what a call ensures, in order; each equation is put into the next.
-use Prim.Native.Nat.{ℕ, _+_, _-_, _*_, _<_}
+use Prim.Native.Nat.{ℕ, _+_, _-_, _*_}
 use mathlib.Core.List.{List, [], _∷_}
 use mathlib.Core.Path.{_≡_, sym, ap, _∙_}
 use lib.Dec.{eqb, leb}
@@ -9,7 +9,7 @@ use Rattle.lists.specs.Choice.{pick}
 use Rattle.lists.specs.Put.{put}
 use Rattle.lists.specs.PutLaws.{put-append, put-cons, put-none}
 use Rattle.record.specs.declared.header.Header.{Header}
-use Rattle.record.specs.Layout.{marksAt, bodiesAt, marksOf, targetsOf, edgeKindsOf, bodiesOf}
+use Rattle.record.specs.Layout.{marksOf, targetsOf, edgeKindsOf, bodiesOf}
 use Rattle.record.specs.Blocks.{instructionsIn, edgesIn, labelMark, firstInstruction, firstEdge, targetAt, edgeKindAt}
 use Rattle.record.specs.Body.{bodyAt, operandNumber}
 use Rattle.flow.specs.Silent.{isQuiet, endingOf}

@@ -1,12 +1,14 @@
 -- The laws of rows: how many numbers they have, and which number stands where.
 -- By induction on the number of rows, each of one length.
-use Prim.Native.Nat.{ℕ, zero, suc, _+_, _*_, _<_}
-use mathlib.Core.List.{List, _++_}
+use Prim.Native.Nat.{ℕ, zero, suc, _+_, _*_, _<_, _≤_}
+use mathlib.Core.List.{List}
 use mathlib.Core.Path.{_≡_, ap, _∙_}
 use native.Mathlib.Nat.{not-suc-le-zero, add-zero, zero-add, mul-suc, mul-zero}
 use native.Mathlib.Omega.{arith}
-use lib.ListN.{length, getD, length-append, List·getD-append}
-use lib.Seq.{getD-append-add}
+use lib.ListN.{length, take, drop, getD, length-append, List·getD-append}
+use lib.Seq.{getD-append-add, take-append-le, take-all}
+use Rattle.lists.specs.Put.{put}
+use Rattle.lists.specs.PutLaws.{put-fits}
 use Rattle.flow.specs.Rows.{rowsFrom}
 
 module _ (f : ℕ → List ℕ) (w : ℕ) (sized : (k : ℕ) → length (f k) ≡ w) where
@@ -30,3 +32,7 @@ module _ (f : ℕ → List ℕ) (w : ℕ) (sized : (k : ℕ) → length (f k) �
   -- number i of row k, of all rows
   pub row-at : (n k i : ℕ) → k < n → i < w → getD (rowsFrom f 0 n) (w * k + i) 0 ≡ getD (f k) i 0
   row-at n k i h g = rows-at 0 n k i h g ∙ ap (λ (j : ℕ). getD (f j) i 0) (zero-add k)
+
+-- of a list with room, the part of as many numbers as were stored is what was stored
+pub put-read : (t e : List ℕ) (n : ℕ) → length t ≡ n → n ≤ length e → take n (put 0 t e) ≡ t
+put-read t e n h g = rw (← h, put-fits 0 t e (omega arith)) (take-append-le (length t) t (drop (0 + length t) e) (omega arith) ∙ take-all (length t) t (omega arith))

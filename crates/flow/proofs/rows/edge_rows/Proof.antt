@@ -1,7 +1,7 @@
 -- `edge_rows` meets its contract.
 -- The invariant: to store the rows from here on is to store all of them.
-use mathlib.Core.Path.{_≡_, refl, sym, ap, _∙_}
-use Prim.Native.Nat.{ℕ, _≤_, _+_, _-_, _*_}
+use mathlib.Core.Path.{_≡_}
+use Prim.Native.Nat.{_≤_, _-_, _*_}
 use native.Mathlib.Omega.{arith}
 use borrow.Author.Needs.{needs}
 use Rattle.flow.specs.Rows.{edgeRow, edgeRows}
@@ -74,7 +74,14 @@ unfolding edgeRow
 loop-again c =
     let l = c .before .before .before .before .before .before .before .before .before .before in
     let v = l .loop .inv in
-    (search needs, v .1, v .2, left-step (v .3) (c .before .before .before .before .before .before .before .before .if1 .taken) (omega arith) (edge-stored _ _ _ _ _ _ _ _ _ _ _ (v .1) (v .2) (c .before .before .before .before .before .before .before .target-at .ensures) (c .before .before .before .before .before .before .place-of .ensures) (c .before .before .before .before .size .ensures .0) (c .before .before .before .edge-kind-at .ensures) (c .before .before .put-two .ensures)))
+    let s = c .before .before .before .before in (
+      search needs,
+      v .1,
+      v .2,
+      left-step (v .3) (s .before .before .before .before .if1 .taken) (omega arith)
+          (edge-stored _ _ _ _ _ _ _ _ _ _ _ (v .1) (v .2) (s .before .before .before .target-at .ensures) (s .before .before .place-of .ensures)
+          (s .size .ensures .0) (c .before .before .before .edge-kind-at .ensures) (c .before .before .put-two .ensures)),
+    )
 
 same-length : tie.Need-same-length Inv-loop μ-loop
 same-length c = left-length (c .before .before .loop .inv .3)

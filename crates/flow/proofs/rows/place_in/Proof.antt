@@ -1,8 +1,7 @@
 -- `place_in` meets its contract.
 -- The invariant: the first from here on is the first of all.
-use mathlib.Core.Path.{_≡_, refl, sym, ap, _∙_}
-use Prim.Native.Nat.{ℕ, _≤_, _-_}
-use native.Mathlib.Omega.{arith}
+use mathlib.Core.Path.{_≡_, sym, _∙_}
+use Prim.Native.Nat.{_≤_, _-_}
 use borrow.Author.Needs.{needs}
 use Rattle.flow.proofs.Storing.{place-all, place-here, place-next, place-none}
 use Rattle.flow.specs.Rows.{placeFrom}

@@ -1,7 +1,7 @@
 -- `shown_rows` meets its contract.
 -- The invariant: to store the rows from here on is to store all of them.
-use mathlib.Core.Path.{_≡_, refl, sym, ap, _∙_}
-use Prim.Native.Nat.{ℕ, _≤_, _+_, _-_, _*_}
+use mathlib.Core.Path.{_≡_}
+use Prim.Native.Nat.{_≤_, _-_}
 use native.Mathlib.Omega.{arith}
 use borrow.Author.Needs.{needs}
 use Rattle.flow.specs.Rows.{shownRow, shownRows}
@@ -58,7 +58,13 @@ loop-again c =
     let l = c .before .before .before .before .before .before .before .before .before in
     let a = l .before .before .before .before .before .before .args in
     let v = l .loop .inv in
-    (search needs, v .1, left-step (v .2) (c .before .before .before .before .before .before .before .if1 .taken) (omega arith) (shown-stored (a .h) (a .rec .now) _ _ _ (l .loop .out) _ _ _ (v .1) (c .before .before .before .before .before .size .ensures .0) (c .before .before .before .before .body-at .ensures) (c .before .before .before .shown-of .ensures) (c .before .before .store .ensures)))
+    let s = c .before .before .before .before in (
+      search needs,
+      v .1,
+      left-step (v .2) (s .before .before .before .if1 .taken) (omega arith)
+          (shown-stored (a .h) (a .rec .now) _ _ _ (l .loop .out) _ _ _ (v .1) (s .before .size .ensures .0) (s .body-at .ensures)
+          (c .before .before .before .shown-of .ensures) (c .before .before .store .ensures)),
+    )
 
 same-length : tie.Need-same-length Inv-loop μ-loop
 same-length c = left-length (c .before .before .loop .inv .2)

@@ -1,6 +1,6 @@
 -- `ending_of` meets its contract.
 -- By whether there is a condition, and by the first operand.
-use mathlib.Core.Path.{sym, _∙_}
+use mathlib.Core.Path.{sym}
 use borrow.Author.Tests.{eq-eqb, ne-eqb}
 use Rattle.flow.specs.Silent.{endingOf}
 use borrow.Author.Needs.{needs}

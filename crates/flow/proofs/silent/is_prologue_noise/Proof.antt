@@ -4,7 +4,7 @@ use Prim.Native.Nat.{ℕ}
 use mathlib.Core.Bool.{Bool, _&&_}
 use mathlib.Core.List.{List}
 use mathlib.Core.Path.{_≡_, sym, _∙_}
-use borrow.Author.Tests.{eq-eqb, ne-eqb}
+use borrow.Author.Tests.{ne-eqb}
 use Rattle.flow.specs.Silent.{mov, lea, isSp, registerFirst, movesFrame, isPrologueNoise}
 use Rattle.record.specs.Body.{mnemonicOf, operandRegister}
 use borrow.Author.Needs.{needs}
