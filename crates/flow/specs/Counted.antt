@@ -5,9 +5,11 @@ use mathlib.Core.List.{List, [], _∷_}
 use mathlib.Core.Path.{_≡_, refl, ap, _∙_}
 use native.Mathlib.Decide.{decLe}
 use native.Mathlib.Omega.{arith}
-use borrow.Author.Tests.{eqb-true}
+use borrow.Author.Tests.{eqb-true, leb-true}
 use Rattle.lists.specs.Choice.{sumBelow}
 use Rattle.record.specs.declared.header.Header.{Header}
+use lib.Dec.{leb}
+use Rattle.record.specs.Header.{limitsOk}
 use Rattle.record.specs.Layout.{marksOf}
 use Rattle.record.specs.Blocks.{instructionsIn, edgesIn, labelMark, firstInstruction, firstEdge, marksOk}
 use Rattle.flow.specs.Rows.{blockEnding, blockBranch}
@@ -68,3 +70,15 @@ marks-counted h s ok =
     let p = both _ _ ok in
     let q = both _ _ (p .0) in
     record { instructions = eqb-true _ _ (q .0); edges = eqb-true _ _ (q .1) }
+
+-- question 3's limits on what the rows are made of
+pub record Small (h : Header) : Type 0 where
+  pub blocks : h .blocks ≤ 200
+  pub instructions : h .instructions ≤ 500
+  pub edges : h .edges ≤ 600
+
+pub limits-small : (h : Header) → limitsOk h ≡ true → Small h
+limits-small h ok =
+    let d = both (leb (h .blocks) 200 && leb (h .instructions) 500) (leb (h .edges) 600) (both _ _ (both _ _ (both _ _ (both _ _ ok .0) .0) .0) .0) in
+    let e = both (leb (h .blocks) 200) (leb (h .instructions) 500) (d .0) in
+    record { blocks = leb-true _ _ (e .0); instructions = leb-true _ _ (e .1); edges = leb-true _ _ (d .1) }

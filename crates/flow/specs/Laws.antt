@@ -36,3 +36,7 @@ module _ (f : ℕ → List ℕ) (w : ℕ) (sized : (k : ℕ) → length (f k) �
 -- of a list with room, the part of as many numbers as were stored is what was stored
 pub put-read : (t e : List ℕ) (n : ℕ) → length t ≡ n → n ≤ length e → take n (put 0 t e) ≡ t
 put-read t e n h g = rw (← h, put-fits 0 t e (omega arith)) (take-append-le (length t) t (drop (0 + length t) e) (omega arith) ∙ take-all (length t) t (omega arith))
+
+-- what a writer left in a list with room, read back by its length
+pub filled : (t e r p : List ℕ) (m n : ℕ) → length t ≡ n → n ≤ length e → m ≡ n → r ≡ put 0 t e → p ≡ take m r → p ≡ t
+filled t e r p m n h g q a b = b ∙ rw (q, a) (put-read t e n h g)
