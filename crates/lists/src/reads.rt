@@ -1,7 +1,7 @@
 // Numbers in a list of bytes, little-endian, and the part of a list that begins at an offset.
 ghost use mathlib.Core.Path.{_≡_};
 ghost use Prim.Native.Nat.{_<_, _-_, _^_, min};
-ghost use lib.ListN.{length, drop};
+ghost use lib.ListN.{length, drop, getD};
 ghost use Rattle.lists.specs.Bytes.{u8At, u16At, u32At, u64At};
 
 pub fn u8_at(s: &[u8], at: usize) -> u8
@@ -38,6 +38,19 @@ pub fn u64_at(s: &[u8], at: usize) -> u64
         return low + u32_at(s, at + 4) as u64 * 4294967296;
     }
     0
+}
+
+// An element of a list of numbers.
+pub fn u16_in(s: &[u16], i: usize) -> u16
+    ensures { λ r. ⌜ (r ≡ getD (now (s .entry)) i 0) × (r < 65536) ⌝ }
+{
+    if i < s.len() { s[i] } else { 0 }
+}
+
+pub fn u64_in(s: &[u64], i: usize) -> u64
+    ensures { λ r. ⌜ (r ≡ getD (now (s .entry)) i 0) × (r < 2 ^ 64) ⌝ }
+{
+    if i < s.len() { s[i] } else { 0 }
 }
 
 // Where a part that begins at an offset really begins, in a list of n.

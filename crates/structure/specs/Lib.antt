@@ -2,3 +2,14 @@ pub mod Flow
 pub mod Shape
 pub mod Plan
 pub mod Demand
+pub mod Within
+pub mod Ranges
+pub mod Heard
+pub mod Addresses
+pub mod Braces
+pub mod Few
+pub mod Props
+pub mod Stored
+pub mod Codes
+pub mod Parts
+pub mod Turns

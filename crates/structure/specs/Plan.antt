@@ -50,27 +50,19 @@ codeOf l = whatNumber (l .what) + 16 * (l .at + 65536 * (l .place + 65536 * l .i
 abbrev pub Go : Type 0
 Go = ℕ → ℕ → ℕ → ℕ → List Line
 
-module _ (blocks edges shown starts targets : List ℕ) (B : ℕ) where
-  -- "A label's indent is one less, never below 0."
-  abbrev pub labelIf : Bool → ℕ → ℕ → List Line
-  labelIf wanted k d = pick wanted (line label-line k 0 (d - 1) ∷ []) []
+-- "A label's indent is one less, never below 0."
+abbrev pub labelIf : Bool → ℕ → ℕ → List Line
+labelIf wanted k d = pick wanted (line label-line k 0 (d - 1) ∷ []) []
 
-  -- of n instructions from i on, a line for each that is shown
-  unfoldable pub shownLines : ℕ → ℕ → ℕ → ℕ → List Line
-  shownLines k i zero d = []
-  shownLines k i (suc n) d = pick (isShown shown i) (line insn-line k i d ∷ shownLines k (suc i) n d) (shownLines k (suc i) n d)
+-- of n instructions from i on, a line for each that is shown
+unfoldable pub shownLines : List ℕ → ℕ → ℕ → ℕ → ℕ → List Line
+shownLines shown k i zero d = []
+shownLines shown k i (suc n) d = pick (isShown shown i) (line insn-line k i d ∷ shownLines shown k (suc i) n d) (shownLines shown k (suc i) n d)
 
+module _ (blocks : List ℕ) where
   -- a block's instructions before a closing conditional branch or direct jmp, which have a line of their own or none
   unfoldable pub bodyCount : ℕ → ℕ
   bodyCount k = pick (eqb (endingIn blocks k) 2 || eqb (endingIn blocks k) 3) (countIn blocks k - 1) (countIn blocks k)
-
-  abbrev pub bodyLines : ℕ → ℕ → List Line
-  bodyLines k d = shownLines k (firstIn blocks k) (bodyCount k) d
-
-  -- "A plain block that wants a label gets it if it isn't first in its range, or if a block outside the range has an edge to
-  -- it not of kind Fall."
-  abbrev pub plainLabel : ℕ → ℕ → ℕ → ℕ → List Line
-  plainLabel from i to d = labelIf (labelWanted blocks i && (ltb from i || outsideJump blocks edges B from to i)) i d
 
   -- a last direct jmp: none if it "goes to the next block when that lies in the range being written", else a goto to a block
   -- or a tail call
@@ -84,8 +76,9 @@ module _ (blocks edges shown starts targets : List ℕ) (B : ℕ) where
       pick (eqb (endingIn blocks i) 2) (line if-goto i (lastIn blocks i) d ∷ [])
       (pick (eqb (endingIn blocks i) 3) (jumpLines i to d) [])
 
-  unfoldable pub plainLines : ℕ → ℕ → ℕ → ℕ → List Line
-  plainLines from i to d = plainLabel from i to d ++ (bodyLines i d ++ closingLines i to d)
+module _ (blocks shown : List ℕ) where
+  abbrev pub bodyLines : ℕ → ℕ → List Line
+  bodyLines k d = shownLines shown k (firstIn blocks k) (bodyCount blocks k) d
 
   -- a block of a do-body other than its last: flat, its direct jmp silent
   unfoldable pub flatBlock : ℕ → ℕ → ℕ → List Line
@@ -102,26 +95,36 @@ module _ (blocks edges shown starts targets : List ℕ) (B : ℕ) where
   unfoldable pub testBlock : ℕ → ℕ → List Line
   testBlock j d =
       labelIf (labelWanted blocks j) j (d + 1)
-      ++ (shownLines j (firstIn blocks j) (countIn blocks j - 1) (d + 1) ++ (line while-line j (lastIn blocks j) d ∷ []))
+      ++ (shownLines shown j (firstIn blocks j) (countIn blocks j - 1) (d + 1) ++ (line while-line j (lastIn blocks j) d ∷ []))
+
+-- "A plain block that wants a label gets it if it isn't first in its range, or if a block outside the range has an edge to
+-- it not of kind Fall."
+abbrev pub plainLabel : List ℕ → List ℕ → ℕ → ℕ → ℕ → ℕ → ℕ → List Line
+plainLabel blocks edges B from i to d = labelIf (labelWanted blocks i && (ltb from i || outsideJump blocks edges B from to i)) i d
+
+module _ (blocks edges shown : List ℕ) (B : ℕ) where
+  unfoldable pub plainLines : ℕ → ℕ → ℕ → ℕ → List Line
+  plainLines from i to d = plainLabel blocks edges B from i to d ++ (bodyLines blocks shown i d ++ closingLines blocks i to d)
 
   -- "A do-head gets it only by the second way, outside meaning outside the loop; other blocks of the body whenever wanted."
   unfoldable pub loopLines : ℕ → ℕ → ℕ → List Line
   loopLines i j d =
       labelIf (labelWanted blocks i && outsideJump blocks edges B i (j + 1) i) i d
-      ++ (line do-line i 0 d ∷ (flatLines i i (j - i) (d + 1) ++ testBlock j d))
+      ++ (line do-line i 0 d ∷ (flatLines blocks shown i i (j - i) (d + 1) ++ testBlock blocks shown j d))
 
   -- an if-region: its block's lines, the opening line for the branch, the range behind it one deeper, a lone closing brace
   abbrev pub regionLines : Go → ℕ → ℕ → ℕ → ℕ → ℕ → List Line
   regionLines go from i t to d =
-      plainLabel from i to d
-      ++ (bodyLines i d ++ (line open-line i (lastIn blocks i) d ∷ (go (i + 1) (i + 1) t (d + 1) ++ (line close-line i 0 d ∷ []))))
+      plainLabel blocks edges B from i to d
+      ++ (bodyLines blocks shown i d ++ (line open-line i (lastIn blocks i) d ∷ (go (i + 1) (i + 1) t (d + 1) ++ (line close-line i 0 d ∷ []))))
 
+module _ (blocks edges shown starts targets : List ℕ) (B : ℕ) where
   -- from place i on, in the range from `from` up to `to`
   abbrev pub step : Go → Bool → Shape → Go
   step go false s from i to d = []
-  step go true (Loop j) from i to d = loopLines i j d ++ go from (j + 1) to d
-  step go true (Region t) from i to d = regionLines go from i t to d ++ go from t to d
-  step go true Plain from i to d = plainLines from i to d ++ go from (i + 1) to d
+  step go true (Loop j) from i to d = loopLines blocks edges shown B i j d ++ go from (j + 1) to d
+  step go true (Region t) from i to d = regionLines blocks edges shown B go from i t to d ++ go from t to d
+  step go true Plain from i to d = plainLines blocks edges shown B from i to d ++ go from (i + 1) to d
 
   unfoldable pub rangeGo : ℕ → Go
   rangeGo zero from i to d = []

@@ -1,2 +1,9 @@
 // The structure of a range: loops, regions, labels and jumps, as a plan of lines with no text.
+pub mod blocks;
+pub mod edges;
+pub mod flow;
+pub mod lines;
+pub mod loops;
+pub mod plan;
 pub mod shape;
+pub mod tests;

@@ -1,4 +1,16 @@
-// What stands at a place of a range.
+// What stands at a place of a range: a do-loop, an if-region, or a plain block.
+use crate::flow::Place;
+use crate::flow::branch_to;
+use crate::flow::ending_in;
+use crate::tests::closes_loop;
+use crate::tests::region_escapes;
+use crate::tests::single_entry;
+ghost use mathlib.Core.Bool.{_&&_, not};
+ghost use mathlib.Core.Path.{_≡_};
+ghost use Prim.Native.Nat.{_+_, _-_, _<_};
+ghost use lib.Dec.{ltb};
+ghost use Rattle.structure.specs.Flow.{closesLoop, singleEntry, escapes};
+ghost use Rattle.structure.specs.Shape.{lastFrom, opensRegion, regionAt, shapeAt};
 
 // A place that a search found.
 pub enum Found {
@@ -11,4 +23,119 @@ pub enum Shape {
     Loop(u16),
     Region(u16),
     Plain,
+}
+
+// The last block from place i on, before `to`, that closes a loop to i.
+pub fn last_loop(blocks: &[u16], edges: &[u16], i: Place, to: Place) -> Found
+    ensures { λ r. ⌜ r ≡ lastFrom (closesLoop (now (blocks .entry)) (now (edges .entry)) (i .0)) (i .0) (to .0 - i .0) ⌝ }
+{
+    let mut j = to.0;
+    while i.0 < j {
+        j -= 1;
+        if closes_loop(blocks, edges, i, Place(j)) {
+            return Found::At(j);
+        }
+    }
+    Found::Nothing
+}
+
+// A loop from i to j has more than one block, and is entered only at i.
+fn is_loop(blocks: &[u16], edges: &[u16], count: u16, i: Place, j: Place) -> bool
+    requires { ⌜ j .0 < 65535 ⌝ }
+    ensures { λ r. ⌜ r ≡ (ltb (i .0) (j .0) && singleEntry (now (blocks .entry)) (now (edges .entry)) count (i .0) (j .0 + 1)) ⌝ }
+{
+    if i.0 < j.0 {
+        return single_entry(blocks, edges, count, i, Place(j.0 + 1));
+    }
+    false
+}
+
+// The places from `from` up to t are entered only at the first, and do not escape.
+fn is_region(
+    blocks: &[u16],
+    edges: &[u16],
+    starts: &[u8],
+    targets: &[u8],
+    count: u16,
+    from: Place,
+    t: Place,
+) -> bool
+    ensures { λ r. ⌜ r ≡ (singleEntry (now (blocks .entry)) (now (edges .entry)) count (from .0) (t .0) && not (escapes (now (blocks .entry)) (now (edges .entry)) (now (starts .entry)) (now (targets .entry)) (from .0) (t .0) (t .0))) ⌝ }
+{
+    if single_entry(blocks, edges, count, from, t) {
+        return !region_escapes(blocks, edges, starts, targets, from, t, t);
+    }
+    false
+}
+
+// An if-region stands at place i of a range up to `to`.
+fn opens_region(
+    blocks: &[u16],
+    edges: &[u16],
+    starts: &[u8],
+    targets: &[u8],
+    count: u16,
+    i: Place,
+    to: Place,
+) -> bool
+    ensures { λ r. ⌜ r ≡ opensRegion (now (blocks .entry)) (now (edges .entry)) (now (starts .entry)) (now (targets .entry)) count (i .0) (to .0) ⌝ }
+{
+    let t = branch_to(blocks, i);
+    if ending_in(blocks, i) == 2 {
+        if i.0 as u32 + 1 < t as u32 {
+            if t <= to.0 {
+                return is_region(
+                    blocks,
+                    edges,
+                    starts,
+                    targets,
+                    count,
+                    Place(i.0 + 1),
+                    Place(t),
+                );
+            }
+        }
+    }
+    false
+}
+
+fn region_at(
+    blocks: &[u16],
+    edges: &[u16],
+    starts: &[u8],
+    targets: &[u8],
+    count: u16,
+    i: Place,
+    to: Place,
+) -> Shape
+    ensures { λ r. ⌜ r ≡ regionAt (now (blocks .entry)) (now (edges .entry)) (now (starts .entry)) (now (targets .entry)) count (i .0) (to .0) ⌝ }
+{
+    if opens_region(blocks, edges, starts, targets, count, i, to) {
+        return Shape::Region(branch_to(blocks, i));
+    }
+    Shape::Plain
+}
+
+// What stands at place i of a range up to `to`. No shorter loop is tried.
+pub fn shape_at(
+    blocks: &[u16],
+    edges: &[u16],
+    starts: &[u8],
+    targets: &[u8],
+    count: u16,
+    i: Place,
+    to: Place,
+) -> Shape
+    ensures { λ r. ⌜ r ≡ shapeAt (now (blocks .entry)) (now (edges .entry)) (now (starts .entry)) (now (targets .entry)) count (i .0) (to .0) ⌝ }
+{
+    let found = last_loop(blocks, edges, i, to);
+    match found {
+        Found::At(j) => {
+            if is_loop(blocks, edges, count, i, Place(j)) {
+                return Shape::Loop(j);
+            }
+            region_at(blocks, edges, starts, targets, count, i, to)
+        }
+        Found::Nothing => region_at(blocks, edges, starts, targets, count, i, to),
+    }
 }

@@ -1,29 +1,14 @@
 -- The code's table of words and the specification's are one.
 -- One equation of the whole table, computed, gives the rule at each entry; behind the last entry both read as an empty text.
 use mathlib.Core.Path.{_≡_, refl, sym, ap, _∙_}
-use mathlib.Core.List.{List, [], _∷_}
-use Prim.Native.Nat.{ℕ, zero, suc, _+_, _*_, _≤_, _<_}
-use native.Mathlib.Nat.{le-of-suc-le-suc, not-suc-le-zero}
+use mathlib.Core.List.{List, []}
+use Prim.Native.Nat.{ℕ, _+_, _*_, _≤_}
 use native.Mathlib.Decide.{decLt}
 use native.Mathlib.Omega.{arith}
 use lib.ListN.{length, getD, take, drop, List·getD-eq-default}
+use Rattle.lists.specs.Entries.{tab, entry}
 use Rattle.tokens.specs.Token.{Token, token}
 use Rattle.tokens.specs.Words.{words, wordToken, wordBytes}
-
-module _ {A : Type 0} (f : ℕ → A) where
-  -- the entries from i on, n of them
-  abbrev tab : ℕ → ℕ → List A
-  tab i zero = []
-  tab i (suc n) = f i ∷ tab (suc i) n
-
-  tab-at : (i n k : ℕ) (d : A) → k < n → getD (tab i n) k d ≡ f (i + k)
-  tab-at i zero k d h = absurd (not-suc-le-zero h)
-  tab-at i (suc n) zero d h = ap f (omega arith)
-  tab-at i (suc n) (suc k) d h = tab-at (suc i) n k d (le-of-suc-le-suc h) ∙ ap f (omega arith)
-
-  -- where the two tables are one, so are their entries
-  entry : (n : ℕ) (t : List A) (d : A) → tab 0 n ≡ t → (k : ℕ) → k < n → f k ≡ getD t k d
-  entry n t d e k h = ap f (omega arith) ∙ sym (tab-at 0 n k d h) ∙ ap (λ (l : List A). getD l k d) e
 
 -- what the code reads of a table as word w
 abbrev wordIn : List ℕ → ℕ → Token

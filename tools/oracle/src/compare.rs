@@ -1,11 +1,13 @@
 //! The comparisons. Each ends with the line `WHAT: N compared, M differ`.
 
+use std::collections::BTreeSet;
 use std::path::PathBuf;
 
 use crate::damage::{self, Call};
 use crate::demand3;
 use crate::gen;
 use crate::listing;
+use crate::pieces;
 use crate::questions;
 use crate::record::{Layout, Record, HEADER};
 use crate::rng::Rng;
@@ -14,7 +16,8 @@ use crate::rng::Rng;
 pub type Comparison = fn(u64, usize) -> Result<bool, String>;
 
 /// The comparisons by name. `tools/compare` has the same names, with the library that each needs.
-pub const COMPARISONS: &[(&str, Comparison)] = &[("questions", questions), ("sanity", sanity)];
+pub const COMPARISONS: &[(&str, Comparison)] =
+    &[("questions", questions), ("operands", operands), ("listing", whole), ("sanity", sanity)];
 
 /// Calls made from each valid record, itself included.
 const CALLS_A_RECORD: usize = 8;
@@ -176,6 +179,160 @@ pub fn questions(seed: u64, count: usize) -> Result<bool, String> {
     Ok(tally.end())
 }
 
+/// Operands and addresses: the port against the Rust, every slot of every instruction of generated
+/// records until so many instructions were seen.
+pub fn operands(seed: u64, count: usize) -> Result<bool, String> {
+    let port = port::operand_tokens()?;
+    let mut rng = Rng::new(seed);
+    let mut tally = Tally::new("operands");
+    let mut forms = BTreeSet::new();
+    let mut instructions = 0;
+    while instructions < count {
+        let call = damage::valid_call(&mut rng);
+        let record = Record::parse(&call.bytes);
+        let slots = pieces::operands(&record);
+        let addresses = pieces::addresses(&record);
+        instructions += slots.len();
+        for (i, (operands, address)) in slots.iter().zip(&addresses).enumerate() {
+            for (what, ours) in operands.iter().chain([address]).enumerate() {
+                let what = if what == 5 { 6 } else { what as u8 };
+                let theirs = port(&call.bytes, i as u16, what);
+                tally.compared += 1;
+                forms.insert(ours.form());
+                if *ours != theirs {
+                    tally.differs(&call, || format!("instruction {i}, {what}: the Rust {ours}, the port {theirs}"))?;
+                }
+            }
+        }
+    }
+    println!("  {instructions} instructions, {} distinct forms", forms.len());
+    Ok(tally.end())
+}
+
+/// Whole listings: every list of the port against the Rust's, and refusals of lists one too short.
+pub fn whole(seed: u64, count: usize) -> Result<bool, String> {
+    let port = port::list()?;
+    let mut rng = Rng::new(seed);
+    let mut tally = Tally::new("listing");
+    let mut seen = Seen::default();
+    for n in 0..count {
+        let valid = damage::valid_call(&mut rng);
+        let call = if n % 8 == 7 { damage::damaged(&mut rng, &valid) } else { valid };
+        tally.compared += 1;
+        if let Err(why) = lists_alike(&call, port, n, &mut seen) {
+            tally.differs(&call, || why)?;
+        }
+    }
+    seen.print();
+    Ok(tally.end())
+}
+
+/// What a call of the port left: the answer, the sizes, and the six lists whole.
+pub struct Left {
+    pub no: u8,
+    pub sizes: [usize; 3],
+    pub lists: Lists,
+}
+
+/// Six lists, as lent to the port.
+#[derive(Clone, PartialEq, Eq)]
+pub struct Lists {
+    pub text: Vec<u8>,
+    pub ends: Vec<u32>,
+    pub kinds: Vec<u8>,
+    pub addresses: Vec<u64>,
+    pub marks: Vec<u16>,
+    pub line_ends: Vec<u32>,
+}
+
+impl Lists {
+    /// Lists of these lengths, filled with something that no listing writes throughout.
+    fn lent(text: usize, tokens: [usize; 2], lines: [usize; 3]) -> Lists {
+        Lists {
+            text: vec![0xee; text],
+            ends: vec![0xeeee_eeee; tokens[0]],
+            kinds: vec![0xee; tokens[1]],
+            addresses: vec![0xeeee_eeee_eeee_eeee; lines[0]],
+            marks: vec![0xeeee; lines[1]],
+            line_ends: vec![0xeeee_eeee; lines[2]],
+        }
+    }
+}
+
+fn lists_alike(call: &Call, port: port::List, n: usize, seen: &mut Seen) -> Result<(), String> {
+    let Call { bytes, from, to } = call;
+    let no = questions::first_no(bytes, *from, *to);
+    if no != 0 {
+        return refused(call, port, Lists::lent(64, [16, 16], [8, 8, 8]), no);
+    }
+    let ours = listing::list(bytes, *from, *to).map_err(|e| format!("the Rust panics: {e}"))?;
+    seen.add(&ours);
+    let (x, k, l) = (ours.text.len(), ours.token_ends.len(), ours.lines());
+    accepted(call, port, Lists::lent(x, [k, k], [l, l, l]), &ours)?;
+    accepted(call, port, Lists::lent(x + 3, [k + 1, k + 2], [l + 4, l + 1, l + 2]), &ours)?;
+    if l == 0 {
+        return Ok(());
+    }
+    let (lent, no) = match n % 6 {
+        0 => (Lists::lent(x - 1, [k, k], [l, l, l]), 12),
+        1 => (Lists::lent(x, [k - 1, k], [l, l, l]), 13),
+        2 => (Lists::lent(x, [k, k - 1], [l, l, l]), 13),
+        3 => (Lists::lent(x, [k, k], [l - 1, l, l]), 14),
+        4 => (Lists::lent(x, [k, k], [l, l - 1, l]), 14),
+        _ => (Lists::lent(x, [k, k], [l, l, l - 1]), 14),
+    };
+    refused(call, port, lent, no)
+}
+
+/// A refusal: the number, no sizes, and every list as it was lent.
+fn refused(call: &Call, port: port::List, lent: Lists, no: u8) -> Result<(), String> {
+    let left = port(&call.bytes, call.from, call.to, lent.clone());
+    if left.no != no || left.sizes != [0; 3] {
+        return Err(format!("expected no {no}, the port says {} with sizes {:?}", left.no, left.sizes));
+    }
+    if left.lists != lent {
+        return Err(format!("no {no}, and a list was changed"));
+    }
+    Ok(())
+}
+
+/// A listing: the sizes, each list filled with the Rust's, and what lies past it as it was lent.
+fn accepted(call: &Call, port: port::List, lent: Lists, ours: &listing::Listing) -> Result<(), String> {
+    let left = port(&call.bytes, call.from, call.to, lent.clone());
+    let sizes = [ours.text.len(), ours.token_ends.len(), ours.lines()];
+    if left.no != 0 || left.sizes != sizes {
+        return Err(format!("the Rust lists {sizes:?}, the port says {} with sizes {:?}", left.no, left.sizes));
+    }
+    let mut want = lent;
+    want.text[..sizes[0]].copy_from_slice(&ours.text);
+    want.ends[..sizes[1]].copy_from_slice(&ours.token_ends);
+    want.kinds[..sizes[1]].copy_from_slice(&ours.token_kinds);
+    want.addresses[..sizes[2]].copy_from_slice(&ours.line_addresses);
+    want.marks[..sizes[2]].copy_from_slice(&ours.line_marks);
+    want.line_ends[..sizes[2]].copy_from_slice(&ours.line_ends);
+    if left.lists != want {
+        return Err(first_unlike(&want, &left.lists));
+    }
+    Ok(())
+}
+
+/// Which list differs first, and where.
+fn first_unlike(want: &Lists, got: &Lists) -> String {
+    fn at<T: PartialEq + std::fmt::Debug>(name: &str, a: &[T], b: &[T]) -> Option<String> {
+        let i = a.iter().zip(b).position(|(x, y)| x != y)?;
+        Some(format!("{name} differs at {i}: the Rust {:?}, the port {:?}", a[i], b[i]))
+    }
+    let lossy = |t: &[u8]| String::from_utf8_lossy(t).into_owned();
+    at("text", &want.text, &got.text)
+        .map(|w| format!("{w}\n  Rust {}\n  port {}", lossy(&want.text), lossy(&got.text)))
+        .or_else(|| at("token ends", &want.ends, &got.ends))
+        .or_else(|| at("token kinds", &want.kinds, &got.kinds))
+        .or_else(|| at("line addresses", &want.addresses, &got.addresses))
+        .or_else(|| at("line marks", &want.marks, &got.marks))
+        .or_else(|| at("line token ends", &want.line_ends, &got.line_ends))
+        .unwrap_or_else(|| "no list differs".to_string())
+}
+
 /// Generated records are accepted and read back, the Rust lists them, and demand 3 holds of it.
 pub fn sanity(seed: u64, count: usize) -> Result<bool, String> {
     let mut rng = Rng::new(seed);
@@ -249,6 +406,9 @@ impl Seen {
 
 /// The port's functions, as far as their archives are linked.
 mod port {
+    use super::{Left, Lists};
+    use crate::pieces::Tokens;
+
     pub type FirstNo = fn(&[u8], usize, usize) -> u8;
 
     #[cfg(port_record)]
@@ -262,6 +422,71 @@ mod port {
 
     #[cfg(not(port_record))]
     pub fn first_no() -> Result<FirstNo, String> {
-        Err("librecord.a is not linked: tools/compare makes it and sets STATICLIB_DIR".to_string())
+        Err(missing("record"))
+    }
+
+    pub type OperandTokens = fn(&[u8], u16, u8) -> Tokens;
+
+    #[cfg(port_operand)]
+    pub fn operand_tokens() -> Result<OperandTokens, String> {
+        extern "C" {
+            fn operand_tokens(
+                rec: *const u8,
+                len: usize,
+                instruction: u16,
+                what: u8,
+                text: *mut u8,
+                text_len: usize,
+                ends: *mut u32,
+                ends_len: usize,
+                kinds: *mut u8,
+                kinds_len: usize,
+            ) -> u64;
+        }
+        Ok(|bytes, instruction, what| {
+            let mut tokens = Tokens { text: vec![0; 1024], ends: vec![0; 64], kinds: vec![0; 64] };
+            let Tokens { text, ends, kinds } = &mut tokens;
+            // The function is total: it stores nothing past the lists lent.
+            let sizes = unsafe {
+                operand_tokens(
+                    bytes.as_ptr(),
+                    bytes.len(),
+                    instruction,
+                    what,
+                    text.as_mut_ptr(),
+                    text.len(),
+                    ends.as_mut_ptr(),
+                    ends.len(),
+                    kinds.as_mut_ptr(),
+                    kinds.len(),
+                )
+            };
+            tokens.text.truncate((sizes >> 32) as usize);
+            tokens.ends.truncate(sizes as u32 as usize);
+            tokens.kinds.truncate(sizes as u32 as usize);
+            tokens
+        })
+    }
+
+    #[cfg(not(port_operand))]
+    pub fn operand_tokens() -> Result<OperandTokens, String> {
+        Err(missing("operand"))
+    }
+
+    pub type List = fn(&[u8], usize, usize, Lists) -> Left;
+
+    #[cfg(port_abi)]
+    pub fn list() -> Result<List, String> {
+        Ok(crate::abi::list)
+    }
+
+    #[cfg(not(port_abi))]
+    pub fn list() -> Result<List, String> {
+        Err(missing("abi"))
+    }
+
+    #[allow(dead_code)]
+    fn missing(name: &str) -> String {
+        format!("lib{name}.a is not linked: tools/compare makes it and sets STATICLIB_DIR")
     }
 }

@@ -11,6 +11,8 @@ pub mod questions;
 pub mod record;
 pub mod rng;
 
+#[cfg(port_abi)]
+mod abi;
 mod binary;
 mod emitter;
 mod iced;

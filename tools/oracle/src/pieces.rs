@@ -12,7 +12,30 @@ pub struct Tokens {
     pub kinds: Vec<u8>,
 }
 
+impl std::fmt::Display for Tokens {
+    fn fmt(&self, f: &mut std::fmt::Formatter) -> std::fmt::Result {
+        write!(f, "`{}` ends {:?} kinds {:?}", String::from_utf8_lossy(&self.text), self.ends, self.kinds)
+    }
+}
+
 impl Tokens {
+    /// The tokens with names, registers and numbers left out: what was printed, whatever of.
+    pub fn form(&self) -> Vec<u8> {
+        let mut form = Vec::new();
+        let mut start = 0;
+        for (end, kind) in self.ends.iter().zip(&self.kinds) {
+            form.push(*kind);
+            let text = &self.text[start..*end as usize];
+            start = *end as usize;
+            match kind {
+                3 | 6 | 0 => form.extend(text),
+                1 | 4 => form.extend(text.iter().take_while(|c| **c != b'_').take(if text.contains(&b'_') { 5 } else { 0 })),
+                _ => form.push(text.first().is_some_and(|c| *c == b'-') as u8),
+            }
+        }
+        form
+    }
+
     fn new(tokens: &[Token]) -> Tokens {
         let mut out = Tokens::default();
         for token in tokens {

@@ -1,0 +1,21 @@
+-- `return_form` meets its contract.
+-- By whether a value is returned.
+use mathlib.Core.Path.{_≡_, sym}
+use borrow.Author.Needs.{needs}
+use borrow.Author.Tests.{eq-eqb, ne-eqb, le-leb, lt-leb, lt-ltb, le-ltb}
+use Rattle.line.specs.Forms.{returnForm}
+use Rattle.line.proofs.forms.return_form.Statement.{statement}
+use Rattle.line.proofs.forms.return_form.Tie as tie
+use Rattle.line.proofs.forms.return_form.Reads as reads
+use Rattle.line.proofs.forms.return_form.Lts as lts
+
+returns : tie.Need-returns
+unfolding returnForm
+returns c = simp (c .if1 .taken)
+
+returns-2 : tie.Need-returns-2
+unfolding returnForm
+returns-2 c = simp (c .if1 .left)
+
+pub return-form-spec : {M : Type 1} → statement M
+return-form-spec = tie.close (tie.spec returns returns-2)

@@ -1,0 +1,34 @@
+-- `xchg_form` meets its contract.
+-- By where the memory operand stands.
+use mathlib.Core.Path.{_≡_, sym}
+use borrow.Author.Needs.{needs}
+use borrow.Author.Tests.{eq-eqb, ne-eqb, le-leb, lt-leb, lt-ltb, le-ltb}
+use Rattle.line.specs.Forms.{xchgForm}
+use borrow.Author.Needs.{needs}
+use Rattle.line.proofs.forms.xchg_form.Statement.{statement}
+use Rattle.line.proofs.forms.xchg_form.Tie as tie
+use Rattle.line.proofs.forms.xchg_form.Reads as reads
+use Rattle.line.proofs.forms.xchg_form.Lts as lts
+use Rattle.record.proofs.body.op_kind.Reads as op-kind-reads
+
+op-kind-requires : tie.Need-op-kind-requires
+op-kind-requires c κs = search needs
+
+returns : tie.Need-returns
+unfolding xchgForm
+returns c = simp (eq-eqb _ _ (c .if1 .taken), sym (c .before .op-kind .ensures))
+
+op-kind-requires-2 : tie.Need-op-kind-requires-2
+op-kind-requires-2 c κs = search needs
+
+returns-2 : tie.Need-returns-2
+unfolding xchgForm
+returns-2 c = simp (eq-eqb _ _ (c .if2 .taken), sym (c .before .op-kind2 .ensures), ne-eqb _ _ (c .before .before .if1 .left), sym (c .before .before .before .op-kind .ensures))
+
+returns-3 : tie.Need-returns-3
+unfolding xchgForm
+returns-3 c = simp (ne-eqb _ _ (c .if2 .left), sym (c .before .op-kind2 .ensures), ne-eqb _ _ (c .before .before .if1 .left), sym (c .before .before .before .op-kind .ensures))
+
+pub xchg-form-spec : {M : Type 1} → statement M
+xchg-form-spec =
+    tie.close (tie.spec op-kind-requires returns op-kind-requires-2 returns-2 returns-3)

@@ -1,0 +1,15 @@
+-- `row_table` meets its contract.
+-- The code's table is the specification's, computed whole.
+use mathlib.Core.Path.{refl}
+use Rattle.line.specs.Codes.{codes, rowBytes}
+use Rattle.line.proofs.rows.row_table.Statement.{statement}
+use Rattle.line.proofs.rows.row_table.Tie as tie
+use Rattle.line.proofs.rows.row_table.Reads as reads
+use Rattle.line.proofs.rows.row_table.Lts as lts
+
+returns : tie.Need-returns
+unfolding rowBytes codes
+returns c = refl
+
+pub row-table-spec : {M : Type 1} → statement M
+row-table-spec = tie.close (tie.spec returns)

@@ -1,0 +1,5 @@
+pub mod Condition
+pub mod Arguments
+pub mod Forms
+pub mod Codes
+pub mod Print

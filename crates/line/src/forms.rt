@@ -1,0 +1,231 @@
+// Which form a line has.
+use record::body::body_at;
+use record::body::memory_base;
+use record::body::memory_size;
+use record::body::mnemonic;
+use record::body::op_count;
+use record::body::op_kind;
+use record::body::op_number;
+use record::body::op_register;
+use x86::registers::full_register;
+use x86::registers::register_size;
+ghost use mathlib.Core.Path.{_≡_};
+ghost use Prim.Native.Nat.{_≤_};
+ghost use Rattle.x86.specs.Table.{isaBytes};
+ghost use Rattle.line.specs.Forms.{castForm, isXorSelf, isAndZero, isOrOnes, imulForm, callForm, xchgForm, plainForm, logicForm, returnForm, jumpForm, insnForm, leavesValue, valueBefore, returnsValue};
+
+fn cast_form(isa: &[u8], m: u8, body: &[u8]) -> u8
+    requires { ⌜ now isa ≡ isaBytes ⌝ }
+    ensures { λ r. ⌜ r ≡ castForm m (now (body .entry)) ⌝ }
+{
+    let narrow = register_size(isa, op_register(body, 0)) == 4;
+    if m == 2 {
+        if narrow { 1 } else { 2 }
+    } else {
+        if narrow { 3 } else { 4 }
+    }
+}
+
+fn is_xor_self(body: &[u8]) -> bool
+    ensures { λ r. ⌜ r ≡ isXorSelf (now (body .entry)) ⌝ }
+{
+    (op_count(body) == 2)
+        & (op_kind(body, 0) == 0)
+        & (op_kind(body, 1) == 0)
+        & (op_register(body, 0) == op_register(body, 1))
+}
+
+fn is_and_zero(body: &[u8]) -> bool
+    ensures { λ r. ⌜ r ≡ isAndZero (now (body .entry)) ⌝ }
+{
+    ((op_count(body) == 2) & (2 <= op_kind(body, 1))) & (op_number(body, 1) == 0)
+}
+
+fn is_or_ones(body: &[u8]) -> bool
+    ensures { λ r. ⌜ r ≡ isOrOnes (now (body .entry)) ⌝ }
+{
+    let v = op_number(body, 1);
+    ((op_count(body) == 2) & (2 <= op_kind(body, 1)))
+        & ((v == 0xffff_ffff_ffff_ffff)
+            | ((v % 0x1_0000_0000 == 0xffff_ffff)
+                & (op_kind(body, 0) == 1)
+                & (memory_size(body) == 4)))
+}
+
+fn imul_form(count: u8) -> u8
+    ensures { λ r. ⌜ r ≡ imulForm count ⌝ }
+{
+    if count == 3 {
+        return 21;
+    }
+    if 2 <= count { 22 } else { 39 }
+}
+
+fn call_form(body: &[u8]) -> u8
+    ensures { λ r. ⌜ r ≡ callForm (now (body .entry)) ⌝ }
+{
+    let kind = op_kind(body, 0);
+    let base = memory_base(body);
+    if kind == 2 {
+        return 24;
+    }
+    if (kind == 1) & (((base == 0x60) | (base == 0x61)) | (base == 0)) {
+        return 25;
+    }
+    26
+}
+
+fn xchg_form(body: &[u8]) -> u8
+    ensures { λ r. ⌜ r ≡ xchgForm (now (body .entry)) ⌝ }
+{
+    if op_kind(body, 0) == 1 {
+        return 34;
+    }
+    if op_kind(body, 1) == 1 {
+        return 35;
+    }
+    39
+}
+
+// An instruction that leaves a value in the accumulator.
+pub fn leaves_value(isa: &[u8], body: &[u8]) -> bool
+    requires { ⌜ now isa ≡ isaBytes ⌝ }
+    ensures { λ r. ⌜ r ≡ leavesValue (now (body .entry)) ⌝ }
+{
+    ((0 < op_count(body))
+        & (op_kind(body, 0) == 0)
+        & (full_register(isa, op_register(body, 0)) == 0x50))
+        | (mnemonic(body) == 23)
+}
+
+// The forms that the mnemonic alone decides.
+const PLAIN_FORMS: [u8; 38] = [
+    39,
+    0,
+    39,
+    39,
+    39,
+    5,
+    12,
+    10,
+    11,
+    8,
+    9,
+    13,
+    14,
+    14,
+    15,
+    16,
+    17,
+    18,
+    19,
+    20,
+    39,
+    39,
+    23,
+    39,
+    39,
+    39,
+    31,
+    32,
+    33,
+    39,
+    36,
+    37,
+    39,
+    39,
+    39,
+    39,
+    38,
+    38,
+];
+
+fn plain_form(m: u8) -> u8
+    ensures { λ r. ⌜ r ≡ plainForm m ⌝ }
+{
+    if m < 38 { PLAIN_FORMS[m as usize] } else { 39 }
+}
+
+// The forms of xor, and, or, where the operands decide.
+fn logic_form(m: u8, body: &[u8]) -> u8
+    ensures { λ r. ⌜ r ≡ logicForm m (now (body .entry)) ⌝ }
+{
+    if (m == 6) & is_xor_self(body) {
+        return 6;
+    }
+    if (m == 7) & is_and_zero(body) {
+        return 6;
+    }
+    if (m == 8) & is_or_ones(body) {
+        return 7;
+    }
+    plain_form(m)
+}
+
+fn return_form(value: bool) -> u8
+    ensures { λ r. ⌜ r ≡ returnForm value ⌝ }
+{
+    if value { 27 } else { 28 }
+}
+
+fn jump_form(body: &[u8]) -> u8
+    ensures { λ r. ⌜ r ≡ jumpForm (now (body .entry)) ⌝ }
+{
+    if op_kind(body, 0) == 1 { 29 } else { 30 }
+}
+
+// The form of an instruction's own line.
+pub fn insn_form(isa: &[u8], value: bool, body: &[u8]) -> u8
+    requires { ⌜ now isa ≡ isaBytes ⌝ }
+    ensures { λ r. ⌜ r ≡ insnForm value (now (body .entry)) ⌝ }
+{
+    let m = mnemonic(body);
+    if (2 <= m) & (m <= 4) {
+        return cast_form(isa, m, body);
+    }
+    if m == 20 {
+        return imul_form(op_count(body));
+    }
+    if m == 23 {
+        return call_form(body);
+    }
+    if m == 24 {
+        return return_form(value);
+    }
+    if m == 25 {
+        return jump_form(body);
+    }
+    if m == 29 {
+        return xchg_form(body);
+    }
+    if (6 <= m) & (m <= 8) {
+        return logic_form(m, body);
+    }
+    plain_form(m)
+}
+
+// Whether one of the six instructions before instruction i of its block, whose first is `first`, leaves a value.
+pub fn returns_value(isa: &[u8], bodies: &[u8], first: u16, i: u16) -> bool
+    requires { ⌜ now isa ≡ isaBytes ⌝ }
+    ensures { λ r. ⌜ r ≡ returnsValue (now (bodies .entry)) first i ⌝ }
+{
+    let mut k: u16 = 0;
+    while k < 6 {
+        if value_before(isa, bodies, first, i, k) {
+            return true;
+        }
+        k += 1;
+    }
+    false
+}
+
+// Whether instruction i - 1 - k is of the block and leaves a value.
+fn value_before(isa: &[u8], bodies: &[u8], first: u16, i: u16, k: u16) -> bool
+    requires { ⌜ (now isa ≡ isaBytes) × (k ≤ 6) ⌝ }
+    ensures { λ r. ⌜ r ≡ valueBefore (now (bodies .entry)) first i k ⌝ }
+{
+    if (first as u32) + (k as u32) < (i as u32) {
+        return leaves_value(isa, body_at(bodies, i - 1 - k));
+    }
+    false
+}

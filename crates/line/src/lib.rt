@@ -1,0 +1,5 @@
+// Lines: conditions, arguments, and the forms of lines.
+pub mod arguments;
+pub mod condition;
+pub mod forms;
+pub mod rows;

@@ -1,0 +1,25 @@
+-- An element of a list of numbers: `u16_in` meets its contract.
+-- Past the end it is 0, by the default of `getD`.
+use mathlib.Core.Path.{sym}
+use native.Mathlib.Omega.{arith}
+use Rattle.lists.proofs.Past.{u8-past}
+use borrow.Author.Needs.{needs}
+use Rattle.lists.proofs.reads.u16_in.Statement.{statement}
+use Rattle.lists.proofs.reads.u16_in.Tie as tie
+use Rattle.lists.proofs.reads.u16_in.Reads as reads
+use Rattle.lists.proofs.reads.u16_in.Lts as lts
+
+mul-result : tie.Need-mul-result
+mul-result c = search needs
+
+shared-slice-read-result : tie.Need-shared-slice-read-result
+shared-slice-read-result c = search needs
+
+returns : tie.Need-returns
+returns c = (search needs, omega (arith, c .shared-slice-known .given (c .before .before .args .i)))
+
+returns-2 : tie.Need-returns-2
+returns-2 c = (sym (u8-past (c .before .args .s .now) _ (c .if1 .left)), search needs)
+
+pub u16-in-spec : {M : Type 1} → statement M
+u16-in-spec = tie.close (tie.spec mul-result shared-slice-read-result returns returns-2)

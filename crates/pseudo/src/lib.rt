@@ -1,0 +1,2 @@
+// The call: questions, sizes, lists.
+pub mod call;

@@ -1,0 +1,48 @@
+-- What loops over edges and over places have shown when they end: one passes the test, or none does; the last one that does.
+-- By the definitions, with the first and the number as they were read.
+use mathlib.Core.Path.{_≡_, sym, ap, _∙_}
+use mathlib.Core.Bool.{Bool, true, false}
+use mathlib.Core.List.{List}
+use Prim.Native.Nat.{ℕ, suc, _+_, _-_, _≤_, _<_}
+use native.Mathlib.Omega.{arith}
+use Rattle.lists.specs.Choice.{anyBelow, pick}
+use Rattle.lists.specs.Below.{any-found, any-goes-on}
+use Rattle.structure.specs.Flow.{firstEdgeIn, edgesIn, hasEdge}
+use Rattle.structure.specs.Shape.{lastFrom}
+use Rattle.structure.specs.declared.shape.Found.the-variants.{At, Nothing}
+
+module _ (blocks edges : List ℕ) (p : ℕ → Bool) (k first n m : ℕ) (f : first ≡ firstEdgeIn blocks k) (h : n ≡ edgesIn blocks k) where
+  pub edge-found : m < n → p (first + m) ≡ true → true ≡ hasEdge blocks edges p k
+  unfolding hasEdge
+  edge-found lt e = sym (any-found (λ j. p (firstEdgeIn blocks k + j)) (edgesIn blocks k) m (omega arith) (rw f at e))
+
+  pub edge-none : m ≤ n → n ≤ m → anyBelow (λ j. p (first + j)) m ≡ false → false ≡ hasEdge blocks edges p k
+  unfolding hasEdge
+  edge-none le ge e =
+      let s : m ≡ edgesIn blocks k = omega arith in
+      sym (simp (f, s) at e)
+
+-- a loop over the places from `from` on
+module _ (q : ℕ → Bool) (from k : ℕ) (after : from ≤ k) where
+  here : from + (k - from) ≡ k
+  here = omega arith
+
+  pub place-found : (to : ℕ) → k < to → q k ≡ true → anyBelow (λ m. q (from + m)) (to - from) ≡ true
+  place-found to lt e = any-found (λ m. q (from + m)) (to - from) (k - from) (omega arith) (ap q here ∙ e)
+
+  pub place-goes-on : anyBelow (λ m. q (from + m)) (k - from) ≡ false → q k ≡ false → anyBelow (λ m. q (from + m)) (k + 1 - from) ≡ false
+  place-goes-on h e =
+      let s : k + 1 - from ≡ k - from + 1 = omega arith in
+      ap (anyBelow (λ m. q (from + m))) s ∙ any-goes-on (λ m. q (from + m)) (k - from) h (ap q here ∙ e)
+
+-- the search for the last place, at one place less
+pub last-turn : (p : ℕ → Bool) (i j : ℕ) → i < j → lastFrom p i (j - i) ≡ pick (p (j - 1)) (At (j - 1)) (lastFrom p i (j - 1 - i))
+unfolding lastFrom
+last-turn p i j h =
+    let s : j - i ≡ suc (j - 1 - i) = omega arith in
+    let t : i + (j - 1 - i) ≡ j - 1 = omega arith in
+    ap (lastFrom p i) s ∙ ap (λ (x : ℕ). pick (p x) (At x) (lastFrom p i (j - 1 - i))) t
+
+pub last-over : (p : ℕ → Bool) (i j : ℕ) → j ≤ i → lastFrom p i (j - i) ≡ Nothing
+unfolding lastFrom
+last-over p i j h = let s : j - i ≡ 0 = omega arith in rw s

@@ -1,0 +1,33 @@
+-- Whether a block of a range has a label: `is_labelled` meets its contract.
+-- By the tests in order.
+use mathlib.Core.Path.{_≡_, refl, sym, ap, _∙_}
+use borrow.Author.Tests.{eq-eqb, ne-eqb, lt-ltb, le-ltb}
+use borrow.Author.Needs.{needs}
+use Rattle.structure.proofs.blocks.is_labelled.Statement.{statement}
+use Rattle.structure.proofs.blocks.is_labelled.Tie as tie
+use Rattle.structure.proofs.blocks.is_labelled.Reads as reads
+use Rattle.structure.proofs.blocks.is_labelled.Lts as lts
+use Rattle.structure.proofs.flow.label_wanted.Reads as label-wanted-reads
+use Rattle.structure.proofs.tests.has_outside_jump_to.Reads as has-outside-jump-to-reads
+
+label-wanted-requires : tie.Need-label-wanted-requires
+label-wanted-requires c κs = search needs
+
+returns : tie.Need-returns
+returns c = simp (sym (c .before .before .before .before .label-wanted .ensures), c .before .before .before .if1 .taken, lt-ltb _ _ (c .if2 .taken))
+
+has-outside-jump-to-requires : tie.Need-has-outside-jump-to-requires
+has-outside-jump-to-requires c κs = search needs
+
+returns-2 : tie.Need-returns-2
+returns-2 c =
+    let w = c .before .before .before .before .before in
+    simp (sym (w .label-wanted .ensures), c .before .before .before .before .if1 .taken, le-ltb _ _ (c .before .if2 .left), c .has-outside-jump-to .ensures)
+
+returns-3 : tie.Need-returns-3
+returns-3 c = simp (sym (c .before .label-wanted .ensures), c .if1 .left)
+
+pub is-labelled-spec : {M : Type 1} → statement M
+is-labelled-spec =
+    tie.close
+    (tie.spec label-wanted-requires returns has-outside-jump-to-requires returns-2 returns-3)

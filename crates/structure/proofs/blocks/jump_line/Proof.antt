@@ -1,0 +1,77 @@
+-- The line of a last direct jmp: `jump_line` meets its contract.
+-- By whether it goes to the next place, then whether it goes to a block.
+use mathlib.Core.Path.{_≡_, refl, sym, ap, _∙_}
+use borrow.Author.Tests.{eq-eqb, ne-eqb, lt-ltb, le-ltb}
+use Rattle.structure.specs.Stored.{stored-none, room-one}
+use borrow.Author.Needs.{needs}
+use Rattle.structure.proofs.blocks.jump_line.Statement.{statement}
+use Rattle.structure.proofs.blocks.jump_line.Tie as tie
+use Rattle.structure.proofs.blocks.jump_line.Reads as reads
+use Rattle.structure.proofs.blocks.jump_line.Lts as lts
+use Rattle.structure.proofs.blocks.goes_next.Reads as goes-next-reads
+use Rattle.structure.proofs.flow.branch_to.Reads as branch-to-reads
+use Rattle.structure.proofs.flow.last_in.Reads as last-in-reads
+use Rattle.structure.proofs.lines.put_line.Reads as put-line-reads
+
+goes-next-requires : tie.Need-goes-next-requires
+goes-next-requires c κs = search needs
+
+returns : tie.Need-returns
+returns c = simp (sym (c .before .goes-next .ensures), c .if1 .taken) (stored-none _ _)
+
+last-in-requires : tie.Need-last-in-requires
+last-in-requires c κs = search needs
+
+branch-to-requires : tie.Need-branch-to-requires
+branch-to-requires c κs = search needs
+
+put-line-requires : tie.Need-put-line-requires
+put-line-requires c κs =
+    let t = c .before in
+    let g = t .before .before .before .before in
+    let room = simp (sym (g .goes-next .ensures), t .before .before .before .if1 .left) at (g .before .before .before .pre .1) in
+    (search needs, search needs, search needs, room-one room)
+
+same-length : tie.Need-same-length
+same-length c = search needs
+
+returns-2 : tie.Need-returns-2
+returns-2 c =
+    let p = c .before .before in
+    let t = p .before .before in
+    let g = t .before .before .before .before in
+    simp (sym (g .goes-next .ensures), t .before .before .before .if1 .left)
+    (simp (sym (t .before .branch-to .ensures .0), eq-eqb _ _ (t .if2 .taken)) (rw (t .before .before .last-in .ensures .0) at (p .put-line .ensures)))
+
+put-line-requires-2 : tie.Need-put-line-requires-2
+put-line-requires-2 c κs =
+    let t = c .before in
+    let g = t .before .before .before .before in
+    let room = simp (sym (g .goes-next .ensures), t .before .before .before .if1 .left) at (g .before .before .before .pre .1) in
+    (search needs, search needs, search needs, room-one room)
+
+same-length-2 : tie.Need-same-length-2
+same-length-2 c = search needs
+
+returns-3 : tie.Need-returns-3
+returns-3 c =
+    let p = c .before .before in
+    let t = p .before .before in
+    let g = t .before .before .before .before in
+    simp (sym (g .goes-next .ensures), t .before .before .before .if1 .left)
+    (simp (sym (t .before .branch-to .ensures .0), ne-eqb _ _ (t .if2 .left)) (rw (t .before .before .last-in .ensures .0) at (p .put-line2 .ensures)))
+
+pub jump-line-spec : {M : Type 1} → statement M
+jump-line-spec =
+    tie.close
+    (tie.spec
+    goes-next-requires
+    returns
+    last-in-requires
+    branch-to-requires
+    put-line-requires
+    same-length
+    returns-2
+    put-line-requires-2
+    same-length-2
+    returns-3)

@@ -1,0 +1,21 @@
+-- An edge to a place, not of kind Fall: `is_jump_to` meets its contract.
+-- By the two numbers of the edge that were read.
+use borrow.Author.Needs.{needs}
+use Rattle.structure.proofs.edges.is_jump_to.Statement.{statement}
+use Rattle.structure.proofs.edges.is_jump_to.Tie as tie
+use Rattle.structure.proofs.edges.is_jump_to.Reads as reads
+use Rattle.structure.proofs.edges.is_jump_to.Lts as lts
+use Rattle.structure.proofs.flow.edge_kind.Reads as edge-kind-reads
+use Rattle.structure.proofs.flow.edge_to.Reads as edge-to-reads
+
+edge-to-requires : tie.Need-edge-to-requires
+edge-to-requires c κs = search needs
+
+edge-kind-requires : tie.Need-edge-kind-requires
+edge-kind-requires c κs = search needs
+
+returns : tie.Need-returns
+returns c = simp (c .edge-kind .ensures, c .before .before .before .edge-to .ensures)
+
+pub is-jump-to-spec : {M : Type 1} → statement M
+is-jump-to-spec = tie.close (tie.spec edge-to-requires edge-kind-requires returns)

@@ -1,0 +1,27 @@
+-- An edge to an address below a start: `is_leaving` meets its contract.
+-- By the three addresses that were read.
+use borrow.Author.Needs.{needs}
+use Rattle.structure.proofs.edges.is_leaving.Statement.{statement}
+use Rattle.structure.proofs.edges.is_leaving.Tie as tie
+use Rattle.structure.proofs.edges.is_leaving.Reads as reads
+use Rattle.structure.proofs.edges.is_leaving.Lts as lts
+use Rattle.structure.proofs.flow.start_at.Reads as start-at-reads
+use Rattle.structure.proofs.flow.target_at.Reads as target-at-reads
+
+target-at-requires : tie.Need-target-at-requires
+target-at-requires c κs = search needs
+
+start-at-requires : tie.Need-start-at-requires
+start-at-requires c κs = search needs
+
+start-at-requires-2 : tie.Need-start-at-requires-2
+start-at-requires-2 c κs = search needs
+
+returns : tie.Need-returns
+returns c =
+    let j = c .before .before .before .before in
+    simp (j .start-at2 .ensures, j .before .start-at .ensures, j .before .before .target-at .ensures)
+
+pub is-leaving-spec : {M : Type 1} → statement M
+is-leaving-spec =
+    tie.close (tie.spec target-at-requires start-at-requires start-at-requires-2 returns)

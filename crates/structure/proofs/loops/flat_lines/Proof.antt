@@ -1,0 +1,68 @@
+-- The blocks of a do-body before its last: `flat_lines` meets its contract.
+-- The invariant: to store the lines of the blocks that are left is to store those of all.
+use mathlib.Core.Path.{_≡_, refl, sym, ap, _∙_}
+use Prim.Native.Nat.{ℕ, _+_, _-_, _≤_}
+use Rattle.structure.specs.Plan.{flatLines}
+use Rattle.structure.specs.Codes.{codes}
+use Rattle.structure.specs.Parts.{flats-turn, flats-over}
+use Rattle.structure.specs.Stored.{Left, left-all, left-step, left-done, left-part, left-length}
+use borrow.Author.Needs.{needs}
+use native.Mathlib.Omega.{arith}
+use Rattle.structure.proofs.loops.flat_lines.Statement.{statement}
+use Rattle.structure.proofs.loops.flat_lines.Tie as tie
+use Rattle.structure.proofs.loops.flat_lines.Reads as reads
+use Rattle.structure.proofs.loops.flat_lines.Lts as lts
+use Rattle.structure.proofs.loops.flat_block.Reads as flat-block-reads
+
+abbrev Inv-loop : tie.InvT-loop
+Inv-loop blocks shown i indent out₀ at last k₀ next₀ out k next = Left out₀ at (codes (flatLines blocks shown (i .0) (i .0) (last - i .0) indent)) out next (codes (flatLines blocks shown (i .0) k (last - k) indent))
+
+abbrev μ-loop : tie.MeasureT-loop
+μ-loop blocks shown i indent out₀ at last k₀ next₀ out k next = last - k
+
+loop-holds : tie.Need-loop-holds Inv-loop μ-loop
+loop-holds c = left-all _ _ _
+
+flat-block-requires : tie.Need-flat-block-requires Inv-loop μ-loop
+flat-block-requires c κs =
+    let l = c .before .before in
+    let s = l .before .before .before .before in
+    let a = s .args in
+    (search needs, left-part (l .loop .inv) (s .pre .1) (flats-turn (a .blocks .now) (a .shown .now) (a .i .0) (l .loop .k) (a .j .0) (a .indent) (c .before .loop-test .taken)))
+
+add-k : tie.Need-add-k Inv-loop μ-loop
+add-k c = search needs
+
+loop-less : tie.Need-loop-less Inv-loop μ-loop
+loop-less c = search needs
+
+loop-again : tie.Need-loop-again Inv-loop μ-loop
+loop-again c =
+    let b = c .before .before in
+    let l = b .before .before .before in
+    let a = l .before .before .before .before .args in
+    left-step (l .loop .inv) (flats-turn (a .blocks .now) (a .shown .now) (a .i .0) (l .loop .k) (a .j .0) (a .indent) (b .before .before .loop-test .taken)) (b .flat-block .ensures)
+
+same-length : tie.Need-same-length Inv-loop μ-loop
+same-length c = left-length (c .before .loop .inv)
+
+returns : tie.Need-returns Inv-loop μ-loop
+returns c =
+    let l = c .before in
+    let a = l .before .before .before .before .args in
+    let e : a .j .0 - l .loop .k ≡ 0 = omega arith in
+    left-done (l .loop .inv) (ap (λ (m : ℕ). codes (flatLines (a .blocks .now) (a .shown .now) (a .i .0) (l .loop .k) m (a .indent))) e ∙ flats-over _ _ _ _ _)
+
+pub flat-lines-spec : {M : Type 1} → statement M
+flat-lines-spec =
+    tie.close
+    (tie.spec
+    Inv-loop
+    μ-loop
+    loop-holds
+    flat-block-requires
+    add-k
+    loop-less
+    loop-again
+    same-length
+    returns)

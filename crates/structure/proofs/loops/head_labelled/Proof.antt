@@ -1,0 +1,30 @@
+-- Whether a do-head has a label: `head_labelled` meets its contract.
+-- By whether it wants one.
+use mathlib.Core.Path.{_≡_, refl, sym, ap, _∙_}
+use borrow.Author.Needs.{needs}
+use Rattle.structure.proofs.loops.head_labelled.Statement.{statement}
+use Rattle.structure.proofs.loops.head_labelled.Tie as tie
+use Rattle.structure.proofs.loops.head_labelled.Reads as reads
+use Rattle.structure.proofs.loops.head_labelled.Lts as lts
+use Rattle.structure.proofs.flow.label_wanted.Reads as label-wanted-reads
+use Rattle.structure.proofs.tests.has_outside_jump_to.Reads as has-outside-jump-to-reads
+
+label-wanted-requires : tie.Need-label-wanted-requires
+label-wanted-requires c κs = search needs
+
+add-t7 : tie.Need-add-t7
+add-t7 c = search needs
+
+has-outside-jump-to-requires : tie.Need-has-outside-jump-to-requires
+has-outside-jump-to-requires c κs = search needs
+
+returns : tie.Need-returns
+returns c = simp (sym (c .before .before .before .label-wanted .ensures), c .before .before .if1 .taken, c .has-outside-jump-to .ensures)
+
+returns-2 : tie.Need-returns-2
+returns-2 c = simp (sym (c .before .label-wanted .ensures), c .if1 .left)
+
+pub head-labelled-spec : {M : Type 1} → statement M
+head-labelled-spec =
+    tie.close
+    (tie.spec label-wanted-requires add-t7 has-outside-jump-to-requires returns returns-2)

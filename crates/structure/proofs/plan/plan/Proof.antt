@@ -1,0 +1,30 @@
+-- The plan of a range: `plan` meets its contract, and asks nothing.
+-- Rows of two bytes a number have fewer lines than four bytes count.
+use Prim.Native.Nat.{ℕ, _<_}
+use lib.ListN.{getD, length-map}
+use Rattle.structure.specs.Plan.{codeOf, planOf}
+use Rattle.structure.specs.Few.{lines-fit}
+use borrow.Author.Needs.{needs}
+use native.Mathlib.Omega.{arith}
+use Rattle.structure.proofs.plan.plan.Statement.{statement}
+use Rattle.structure.proofs.plan.plan.Tie as tie
+use Rattle.structure.proofs.plan.plan.Reads as reads
+use Rattle.structure.proofs.plan.plan.Lts as lts
+use Rattle.structure.proofs.plan.emit_range.Reads as emit-range-reads
+
+emit-range-requires : tie.Need-emit-range-requires
+emit-range-requires c κs =
+    let s = c .before .before .before .before .before .before .before in
+    let a = s .args in
+    let small : (k : ℕ) → getD (a .blocks .now) k 0 < 65536 = λ k. omega (arith, c .before .before .before .before .before .before .shared-slice-known .given k) in
+    let few = lines-fit (a .blocks .now) (a .edges .now) (a .shown .now) (a .starts .now) (a .targets .now) (a .count) (a .from) (a .to) (a .indent) small (omega (arith, s .fits .to)) in
+    ((omega arith, omega (arith, s .fits .to, s .fits .indent)), record { fits = simp length-map (omega (arith, few)) })
+
+same-length : tie.Need-same-length
+same-length c = search needs
+
+returns : tie.Need-returns
+returns c = search needs
+
+pub plan-spec : {M : Type 1} → statement M
+plan-spec = tie.close (tie.spec emit-range-requires same-length returns)

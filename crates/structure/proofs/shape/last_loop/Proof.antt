@@ -1,0 +1,74 @@
+-- The last block that closes a loop: `last_loop` meets its contract.
+-- The invariant: the last one before j is the last one before the end.
+use mathlib.Core.Path.{_≡_, refl, sym, ap, _∙_}
+use mathlib.Core.Bool.{Bool, true, false}
+use Prim.Native.Nat.{ℕ, _+_, _-_, _≤_}
+use Rattle.lists.specs.Choice.{pick}
+use Rattle.structure.specs.Flow.{closesLoop}
+use Rattle.structure.specs.Shape.{lastFrom}
+use Rattle.structure.specs.declared.shape.Found.the-variants.{At}
+use Rattle.structure.proofs.Found.{last-turn, last-over}
+use borrow.Author.Needs.{needs}
+use Rattle.structure.proofs.shape.last_loop.Statement.{statement}
+use Rattle.structure.proofs.shape.last_loop.Tie as tie
+use Rattle.structure.proofs.shape.last_loop.Reads as reads
+use Rattle.structure.proofs.shape.last_loop.Lts as lts
+use Rattle.structure.proofs.tests.closes_loop.Reads as closes-loop-reads
+
+abbrev Inv-loop : tie.InvT-loop
+Inv-loop blocks edges i j₀ j = (j ≤ 65535) × (lastFrom (closesLoop blocks edges (i .0)) (i .0) (j - i .0) ≡ lastFrom (closesLoop blocks edges (i .0)) (i .0) (j₀ - i .0))
+
+abbrev μ-loop : tie.MeasureT-loop
+μ-loop blocks edges i j₀ j = j
+
+loop-holds : tie.Need-loop-holds Inv-loop μ-loop
+loop-holds c = (search needs, refl)
+
+sub-j : tie.Need-sub-j Inv-loop μ-loop
+sub-j c = search needs
+
+closes-loop-requires : tie.Need-closes-loop-requires Inv-loop μ-loop
+closes-loop-requires c κs = search needs
+
+returns : tie.Need-returns Inv-loop μ-loop
+returns c =
+    let t = c .before in
+    let l = t .before .before .before in
+    let a = l .before .before .before .args in
+    let n = l .loop .j in
+    sym (ap (λ (b : Bool). pick b (At (n - 1)) (lastFrom (closesLoop (a .blocks .now) (a .edges .now) (a .i .0)) (a .i .0) (n - 1 - a .i .0))) (sym (t .closes-loop .ensures) ∙ c .if2 .taken))
+    ∙ sym (last-turn (closesLoop (a .blocks .now) (a .edges .now) (a .i .0)) (a .i .0) n (search needs)) ∙ l .loop .inv .1
+
+loop-less : tie.Need-loop-less Inv-loop μ-loop
+loop-less c = search needs
+
+loop-again : tie.Need-loop-again Inv-loop μ-loop
+loop-again c =
+    let t = c .before in
+    let l = t .before .before .before in
+    let a = l .before .before .before .args in
+    let n = l .loop .j in (
+      search needs,
+      sym (ap (λ (b : Bool). pick b (At (n - 1)) (lastFrom (closesLoop (a .blocks .now) (a .edges .now) (a .i .0)) (a .i .0) (n - 1 - a .i .0))) (sym (t .closes-loop .ensures) ∙ c .if2 .left))
+          ∙ sym (last-turn (closesLoop (a .blocks .now) (a .edges .now) (a .i .0)) (a .i .0) n (search needs)) ∙ l .loop .inv .1,
+    )
+
+returns-2 : tie.Need-returns-2 Inv-loop μ-loop
+returns-2 c =
+    let l = c .before .before in
+    let a = l .before .before .before .args in
+    sym (last-over (closesLoop (a .blocks .now) (a .edges .now) (a .i .0)) (a .i .0) (l .loop .j) (search needs)) ∙ l .loop .inv .1
+
+pub last-loop-spec : {M : Type 1} → statement M
+last-loop-spec =
+    tie.close
+    (tie.spec
+    Inv-loop
+    μ-loop
+    loop-holds
+    sub-j
+    closes-loop-requires
+    returns
+    loop-less
+    loop-again
+    returns-2)

@@ -1,0 +1,28 @@
+-- An if-region or a plain block: `region_at` meets its contract.
+-- By whether a region stands there.
+use mathlib.Core.Path.{sym, _∙_}
+use Rattle.structure.specs.Shape.{regionAt}
+use borrow.Author.Needs.{needs}
+use Rattle.structure.proofs.shape.region_at.Statement.{statement}
+use Rattle.structure.proofs.shape.region_at.Tie as tie
+use Rattle.structure.proofs.shape.region_at.Reads as reads
+use Rattle.structure.proofs.shape.region_at.Lts as lts
+use Rattle.structure.proofs.flow.branch_to.Reads as branch-to-reads
+use Rattle.structure.proofs.shape.opens_region.Reads as opens-region-reads
+
+opens-region-requires : tie.Need-opens-region-requires
+opens-region-requires c κs = search needs
+
+branch-to-requires : tie.Need-branch-to-requires
+branch-to-requires c κs = search needs
+
+returns : tie.Need-returns
+unfolding regionAt
+returns c = simp (sym (c .before .before .opens-region .ensures), c .before .if1 .taken, c .branch-to .ensures .0)
+
+returns-2 : tie.Need-returns-2
+unfolding regionAt
+returns-2 c = simp (sym (c .before .opens-region .ensures), c .if1 .left)
+
+pub region-at-spec : {M : Type 1} → statement M
+region-at-spec = tie.close (tie.spec opens-region-requires branch-to-requires returns returns-2)

@@ -1,0 +1,153 @@
+// The lines of one block: a plain one, the head of an if-region, and those of a do-body.
+use crate::flow::Place;
+use crate::flow::branch_to;
+use crate::flow::count_in;
+use crate::flow::ending_in;
+use crate::flow::first_in;
+use crate::flow::label_wanted;
+use crate::flow::last_in;
+use crate::lines::label;
+use crate::lines::one_less;
+use crate::lines::put_line;
+use crate::lines::shown_lines;
+use crate::tests::has_outside_jump_to;
+ghost use mathlib.Core.Bool.{_&&_};
+ghost use mathlib.Core.Path.{_≡_};
+ghost use Prim.Native.Nat.{_+_, _-_, _<_, _≤_};
+ghost use lib.Dec.{eqb, ltb};
+ghost use Rattle.structure.specs.Flow.{branchTo};
+ghost use Rattle.structure.specs.Plan.{bodyCount, bodyLines, jumpLines, closingLines, plainLines};
+ghost use Rattle.structure.specs.Within.{labelled};
+ghost use Rattle.structure.specs.Codes.{codes};
+ghost use Rattle.structure.specs.Parts.{headLines};
+ghost use Rattle.structure.specs.Stored.{Stored, Room};
+
+// Whether the block at place i of a range has a label.
+fn is_labelled(blocks: &[u16], edges: &[u16], count: u16, from: Place, i: Place, to: Place) -> bool
+    ensures { λ r. ⌜ r ≡ labelled (now (blocks .entry)) (now (edges .entry)) count (from .0) (i .0) (to .0) ⌝ }
+{
+    if label_wanted(blocks, i) {
+        if from.0 < i.0 {
+            return true;
+        }
+        return has_outside_jump_to(blocks, edges, count, from, to, i);
+    }
+    false
+}
+
+// How many instructions stand before a closing conditional branch or direct jmp.
+fn body_count(blocks: &[u16], k: Place) -> u32
+    ensures { λ r. ⌜ (r ≡ bodyCount (now (blocks .entry)) (k .0)) × (r < 65536) ⌝ }
+{
+    let n = count_in(blocks, k) as u32;
+    let ending = ending_in(blocks, k);
+    if (ending == 2) | (ending == 3) {
+        return one_less(n);
+    }
+    n
+}
+
+pub fn body_lines(
+    blocks: &[u16],
+    shown: &[u8],
+    k: Place,
+    indent: u32,
+    out: &mut [u64],
+    at: usize,
+) -> usize
+    requires { ⌜ (indent < 131072) × Room at (codes (bodyLines (now blocks) (now shown) (k .0) indent)) ⌝ }
+    ensures { λ r. ⌜ Stored (now (out .entry)) at (codes (bodyLines (now (blocks .entry)) (now (shown .entry)) (k .0) indent)) r (now (out .exit)) ⌝ }
+{
+    let first = first_in(blocks, k) as u32;
+    let n = body_count(blocks, k);
+    shown_lines(shown, k, first, n, indent, out, at)
+}
+
+// A direct jmp goes to the next place, and that lies in the range.
+fn goes_next(blocks: &[u16], i: Place, to: Place) -> bool
+    ensures { λ r. ⌜ r ≡ (eqb (branchTo (now (blocks .entry)) (i .0)) (i .0 + 1) && ltb (i .0 + 1) (to .0)) ⌝ }
+{
+    let next = i.0 as u32 + 1;
+    (branch_to(blocks, i) as u32 == next) & (next < to.0 as u32)
+}
+
+// The line of a last direct jmp: none, a goto, or a tail call.
+fn jump_line(blocks: &[u16], i: Place, to: Place, indent: u32, out: &mut [u64], at: usize) -> usize
+    requires { ⌜ (indent < 131072) × Room at (codes (jumpLines (now blocks) (i .0) (to .0) indent)) ⌝ }
+    ensures { λ r. ⌜ Stored (now (out .entry)) at (codes (jumpLines (now (blocks .entry)) (i .0) (to .0) indent)) r (now (out .exit)) ⌝ }
+{
+    if goes_next(blocks, i, to) {
+        return at;
+    }
+    let last = last_in(blocks, i);
+    if branch_to(blocks, i) == 65535 {
+        return put_line(out, at, 7, i, last, indent);
+    }
+    put_line(out, at, 6, i, last, indent)
+}
+
+// The line of a block's closing branch or jmp.
+fn closing_line(
+    blocks: &[u16],
+    i: Place,
+    to: Place,
+    indent: u32,
+    out: &mut [u64],
+    at: usize,
+) -> usize
+    requires { ⌜ (indent < 131072) × Room at (codes (closingLines (now blocks) (i .0) (to .0) indent)) ⌝ }
+    ensures { λ r. ⌜ Stored (now (out .entry)) at (codes (closingLines (now (blocks .entry)) (i .0) (to .0) indent)) r (now (out .exit)) ⌝ }
+{
+    let ending = ending_in(blocks, i);
+    if ending == 2 {
+        return put_line(out, at, 3, i, last_in(blocks, i), indent);
+    }
+    if ending == 3 {
+        return jump_line(blocks, i, to, indent, out, at);
+    }
+    at
+}
+
+// A plain block at place i of the range from `from` up to `to`.
+pub fn emit_plain(
+    blocks: &[u16],
+    edges: &[u16],
+    shown: &[u8],
+    count: u16,
+    from: Place,
+    i: Place,
+    to: Place,
+    indent: u32,
+    out: &mut [u64],
+    at: usize,
+) -> usize
+    requires { ⌜ (indent < 131072) × Room at (codes (plainLines (now blocks) (now edges) (now shown) count (from .0) (i .0) (to .0) indent)) ⌝ }
+    ensures { λ r. ⌜ Stored (now (out .entry)) at (codes (plainLines (now (blocks .entry)) (now (edges .entry)) (now (shown .entry)) count (from .0) (i .0) (to .0) indent)) r (now (out .exit)) ⌝ }
+{
+    let wanted = is_labelled(blocks, edges, count, from, i, to);
+    let n = label(out, at, wanted, i, indent);
+    let m = body_lines(blocks, shown, i, indent, out, n);
+    closing_line(blocks, i, to, indent, out, m)
+}
+
+// The block of an if-region, with its opening line.
+pub fn emit_head(
+    blocks: &[u16],
+    edges: &[u16],
+    shown: &[u8],
+    count: u16,
+    from: Place,
+    i: Place,
+    to: Place,
+    indent: u32,
+    out: &mut [u64],
+    at: usize,
+) -> usize
+    requires { ⌜ (indent < 131072) × Room at (codes (headLines (now blocks) (now edges) (now shown) count (from .0) (i .0) (to .0) indent)) ⌝ }
+    ensures { λ r. ⌜ Stored (now (out .entry)) at (codes (headLines (now (blocks .entry)) (now (edges .entry)) (now (shown .entry)) count (from .0) (i .0) (to .0) indent)) r (now (out .exit)) ⌝ }
+{
+    let wanted = is_labelled(blocks, edges, count, from, i, to);
+    let n = label(out, at, wanted, i, indent);
+    let m = body_lines(blocks, shown, i, indent, out, n);
+    put_line(out, m, 2, i, last_in(blocks, i), indent)
+}

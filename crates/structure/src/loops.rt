@@ -1,0 +1,142 @@
+// The lines of a do-loop: its label, its do-line, its body, which is flat, and its while-line.
+use crate::blocks::body_lines;
+use crate::flow::Place;
+use crate::flow::count_in;
+use crate::flow::ending_in;
+use crate::flow::first_in;
+use crate::flow::label_wanted;
+use crate::flow::last_in;
+use crate::lines::label;
+use crate::lines::one_less;
+use crate::lines::put_line;
+use crate::lines::shown_lines;
+use crate::tests::has_outside_jump_to;
+ghost use mathlib.Core.Path.{_≡_};
+ghost use Prim.Native.Nat.{_+_, _-_, _<_, _≤_};
+ghost use Rattle.structure.specs.Plan.{flatBlock, flatLines, testBlock, loopLines};
+ghost use Rattle.structure.specs.Within.{headLabelled};
+ghost use Rattle.structure.specs.Codes.{codes};
+ghost use Rattle.structure.specs.Parts.{branchLine, doLines};
+ghost use Rattle.structure.specs.Stored.{Stored, Room};
+
+// The line of a closing conditional branch, if the block ends with one.
+fn branch_line(blocks: &[u16], k: Place, indent: u32, out: &mut [u64], at: usize) -> usize
+    requires { ⌜ (indent < 131072) × Room at (codes (branchLine (now blocks) (k .0) indent)) ⌝ }
+    ensures { λ r. ⌜ Stored (now (out .entry)) at (codes (branchLine (now (blocks .entry)) (k .0) indent)) r (now (out .exit)) ⌝ }
+{
+    if ending_in(blocks, k) == 2 {
+        return put_line(out, at, 3, k, last_in(blocks, k), indent);
+    }
+    at
+}
+
+// A block of a do-body other than its last; i is the loop's head.
+fn flat_block(
+    blocks: &[u16],
+    shown: &[u8],
+    i: Place,
+    k: Place,
+    indent: u32,
+    out: &mut [u64],
+    at: usize,
+) -> usize
+    requires { ⌜ (indent < 131072) × Room at (codes (flatBlock (now blocks) (now shown) (i .0) (k .0) indent)) ⌝ }
+    ensures { λ r. ⌜ Stored (now (out .entry)) at (codes (flatBlock (now (blocks .entry)) (now (shown .entry)) (i .0) (k .0) indent)) r (now (out .exit)) ⌝ }
+{
+    let wanted = (i.0 < k.0) & label_wanted(blocks, k);
+    let n = label(out, at, wanted, k, indent);
+    let m = body_lines(blocks, shown, k, indent, out, n);
+    branch_line(blocks, k, indent, out, m)
+}
+
+// The blocks of a do-body from its head up to its last, the last not counted.
+fn flat_lines(
+    blocks: &[u16],
+    shown: &[u8],
+    i: Place,
+    j: Place,
+    indent: u32,
+    out: &mut [u64],
+    at: usize,
+) -> usize
+    requires { ⌜ (indent < 131072) × Room at (codes (flatLines (now blocks) (now shown) (i .0) (i .0) (j .0 - i .0) indent)) ⌝ }
+    ensures { λ r. ⌜ Stored (now (out .entry)) at (codes (flatLines (now (blocks .entry)) (now (shown .entry)) (i .0) (i .0) (j .0 - i .0) indent)) r (now (out .exit)) ⌝ }
+{
+    let last = j.0;
+    let mut k = i.0;
+    let mut next = at;
+    while k < last {
+        next = flat_block(blocks, shown, i, Place(k), indent, out, next);
+        k += 1;
+    }
+    next
+}
+
+// The last block of a do-body, and the while-line for its last instruction.
+fn test_block(
+    blocks: &[u16],
+    shown: &[u8],
+    j: Place,
+    indent: u32,
+    out: &mut [u64],
+    at: usize,
+) -> usize
+    requires { ⌜ (indent + 1 < 131072) × Room at (codes (testBlock (now blocks) (now shown) (j .0) indent)) ⌝ }
+    ensures { λ r. ⌜ Stored (now (out .entry)) at (codes (testBlock (now (blocks .entry)) (now (shown .entry)) (j .0) indent)) r (now (out .exit)) ⌝ }
+{
+    let first = first_in(blocks, j) as u32;
+    let size = one_less(count_in(blocks, j) as u32);
+    let wanted = label_wanted(blocks, j);
+    let n = label(out, at, wanted, j, indent + 1);
+    let m = shown_lines(shown, j, first, size, indent + 1, out, n);
+    put_line(out, m, 4, j, last_in(blocks, j), indent)
+}
+
+// The body of a do-loop from i to j, with its while-line.
+fn emit_do(
+    blocks: &[u16],
+    shown: &[u8],
+    i: Place,
+    j: Place,
+    indent: u32,
+    out: &mut [u64],
+    at: usize,
+) -> usize
+    requires { ⌜ (indent + 1 < 131072) × Room at (codes (doLines (now blocks) (now shown) (i .0) (j .0) indent)) ⌝ }
+    ensures { λ r. ⌜ Stored (now (out .entry)) at (codes (doLines (now (blocks .entry)) (now (shown .entry)) (i .0) (j .0) indent)) r (now (out .exit)) ⌝ }
+{
+    let n = flat_lines(blocks, shown, i, j, indent + 1, out, at);
+    test_block(blocks, shown, j, indent, out, n)
+}
+
+// Whether a do-head has a label.
+fn head_labelled(blocks: &[u16], edges: &[u16], count: u16, i: Place, j: Place) -> bool
+    requires { ⌜ j .0 < 65535 ⌝ }
+    ensures { λ r. ⌜ r ≡ headLabelled (now (blocks .entry)) (now (edges .entry)) count (i .0) (j .0) ⌝ }
+{
+    if label_wanted(blocks, i) {
+        return has_outside_jump_to(blocks, edges, count, i, Place(j.0 + 1), i);
+    }
+    false
+}
+
+// The do-loop from i to j.
+pub fn emit_loop(
+    blocks: &[u16],
+    edges: &[u16],
+    shown: &[u8],
+    count: u16,
+    i: Place,
+    j: Place,
+    indent: u32,
+    out: &mut [u64],
+    at: usize,
+) -> usize
+    requires { ⌜ (j .0 < 65535) × (indent + 1 < 131072) × Room at (codes (loopLines (now blocks) (now edges) (now shown) count (i .0) (j .0) indent)) ⌝ }
+    ensures { λ r. ⌜ Stored (now (out .entry)) at (codes (loopLines (now (blocks .entry)) (now (edges .entry)) (now (shown .entry)) count (i .0) (j .0) indent)) r (now (out .exit)) ⌝ }
+{
+    let wanted = head_labelled(blocks, edges, count, i, j);
+    let n = label(out, at, wanted, i, indent);
+    let m = put_line(out, n, 1, i, 0, indent);
+    emit_do(blocks, shown, i, j, indent, out, m)
+}
