@@ -1,3 +1,6 @@
 pub mod Silent
 pub mod Rows
+pub mod Counted
+pub mod Laws
+pub mod Terms
 pub mod Planned

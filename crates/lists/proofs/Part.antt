@@ -21,3 +21,11 @@ module _ (s : List ℕ) (at w : ℕ) (h : w ≡ min at (length s)) where
 
   pub part-length : length (take (length s - w) (drop w s)) ≡ length s - at
   part-length = ap length part-is ∙ length-drop at s
+
+-- a length kept within the list takes the same
+pub take-within : (s : List ℕ) (n e : ℕ) → e ≡ min n (length s) → take e s ≡ take n s
+take-within s n e h =
+    elim (decLe n (length s)) [
+      | yes a ↦ let q : e ≡ n = omega arith in ap (λ (k : ℕ). take k s) q
+      | no a ↦ take-all e s (omega arith) ∙ sym (take-all n s (omega arith))
+    ]

@@ -13,3 +13,11 @@ pub fn part(s: &[u8], at: usize, n: usize) -> &[u8]
     let e = within(n, rest.len());
     &rest[..e]
 }
+
+// The part of at most n numbers from the start on.
+pub fn part_u16(s: &[u16], n: usize) -> &[u16]
+    ensures { λ r. ⌜ now r ≡ take n (now (s .entry)) ⌝ }
+{
+    let e = within(n, s.len());
+    &s[..e]
+}

@@ -1,22 +1,12 @@
 -- `parts::part` meets its contract.
 -- A length kept within the list takes the same.
-use mathlib.Core.Path.{_≡_, sym, ap, _∙_}
-use mathlib.Core.List.{List}
-use Prim.Native.Nat.{ℕ, min}
-use native.Mathlib.Decide.{decLe}
+use mathlib.Core.Path.{ap, _∙_}
 use native.Mathlib.Omega.{arith}
-use lib.ListN.{length, take, length-take}
-use lib.Seq.{take-all}
+use lib.ListN.{take, length-take}
+use Rattle.lists.proofs.Part.{take-within}
 use borrow.Author.Needs.{needs}
 use Rattle.lists.proofs.parts.part.Statement.{statement}
 use Rattle.lists.proofs.parts.part.Tie as tie
-
-take-within : (s : List ℕ) (n e : ℕ) → e ≡ min n (length s) → take e s ≡ take n s
-take-within s n e h =
-    elim (decLe n (length s)) [
-      | yes a ↦ let q : e ≡ n = omega arith in ap (λ (k : ℕ). take k s) q
-      | no a ↦ take-all e s (omega arith) ∙ sym (take-all n s (omega arith))
-    ]
 
 from-requires : tie.Need-from-requires
 from-requires c κs = search needs

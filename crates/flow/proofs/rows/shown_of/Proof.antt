@@ -1,0 +1,21 @@
+-- `shown_of` meets its contract.
+-- By whether the instruction is silent by itself.
+use mathlib.Core.Path.{sym}
+use borrow.Author.Needs.{needs}
+use Rattle.flow.proofs.rows.shown_of.Statement.{statement}
+use Rattle.flow.proofs.rows.shown_of.Tie as tie
+use Rattle.flow.proofs.rows.shown_of.Reads as reads
+use Rattle.flow.proofs.rows.shown_of.Lts as lts
+use Rattle.flow.proofs.silent.is_quiet.Reads as is-quiet-reads
+
+is-quiet-requires : tie.Need-is-quiet-requires
+is-quiet-requires c κs = search needs
+
+returns : tie.Need-returns
+returns c = simp (sym (c .before .is-quiet .ensures), c .if1 .taken)
+
+returns-2 : tie.Need-returns-2
+returns-2 c = simp (sym (c .before .is-quiet .ensures), c .if1 .left)
+
+pub shown-of-spec : {M : Type 1} → statement M
+shown-of-spec = tie.close (tie.spec is-quiet-requires returns returns-2)

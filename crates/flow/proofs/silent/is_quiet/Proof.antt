@@ -1,0 +1,38 @@
+-- `is_quiet` meets its contract.
+-- The answer is the test itself, of what the readers ensure.
+use Rattle.flow.specs.Silent.{isQuiet}
+use borrow.Author.Needs.{needs}
+use Rattle.flow.proofs.silent.is_quiet.Statement.{statement}
+use Rattle.flow.proofs.silent.is_quiet.Tie as tie
+use Rattle.flow.proofs.silent.is_quiet.Reads as reads
+use Rattle.flow.proofs.silent.is_quiet.Lts as lts
+use Rattle.flow.proofs.silent.is_direct_jmp.Reads as is-direct-jmp-reads
+use Rattle.flow.proofs.silent.is_folded.Reads as is-folded-reads
+use Rattle.flow.proofs.silent.is_skipped.Reads as is-skipped-reads
+use Rattle.record.proofs.body.mnemonic.Reads as mnemonic-reads
+
+is-skipped-requires : tie.Need-is-skipped-requires
+is-skipped-requires c κs = search needs
+
+mnemonic-requires : tie.Need-mnemonic-requires
+mnemonic-requires c κs = search needs
+
+is-folded-requires : tie.Need-is-folded-requires
+is-folded-requires c κs = search needs
+
+is-direct-jmp-requires : tie.Need-is-direct-jmp-requires
+is-direct-jmp-requires c κs = search needs
+
+returns : tie.Need-returns
+unfolding isQuiet
+returns c = simp (c .is-direct-jmp .ensures, c .before .is-folded .ensures, c .before .before .mnemonic .ensures, c .before .before .before .is-skipped .ensures)
+
+pub is-quiet-spec : {M : Type 1} → statement M
+is-quiet-spec =
+    tie.close
+    (tie.spec
+    is-skipped-requires
+    mnemonic-requires
+    is-folded-requires
+    is-direct-jmp-requires
+    returns)

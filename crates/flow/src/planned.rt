@@ -1,0 +1,48 @@
+// The plan of a range of a record's blocks.
+use crate::rows::block_rows;
+use crate::rows::edge_rows;
+use crate::rows::shown_rows;
+use lists::parts::part;
+use lists::parts::part_u16;
+use lists::reads::from as part_from;
+use record::header::Header;
+use record::layout::size;
+use record::layout::targets_at;
+use structure::plan::plan;
+ghost use mathlib.Core.Path.{_≡_};
+ghost use mathlib.Core.Bool.{true};
+ghost use Rattle.record.specs.Header.{limitsOk};
+ghost use Rattle.structure.specs.Stored.{Stored};
+ghost use Rattle.x86.specs.Table.{isaBytes};
+ghost use Rattle.flow.specs.Counted.{Counted};
+ghost use Rattle.flow.specs.Planned.{recordCodes};
+
+// The lines' codes from the start of the list on; answers how many there are, stored or not.
+pub fn plan_record(isa: &[u8], rec: &[u8], h: Header, from: u16, to: u16, out: &mut [u64]) -> usize
+    requires isa { ⌜ now isa ≡ isaBytes ⌝ }
+    requires limits { ⌜ limitsOk h ≡ true ⌝ }
+    requires counted { ⌜ Counted h (now rec) ⌝ }
+    ensures { λ r. ⌜ Stored (now (out .entry)) 0 (recordCodes h (now (rec .entry)) from to) r (now (out .exit)) ⌝ }
+{
+    let mut blocks = [0u16; 1600];
+    let mut edges = [0u16; 1200];
+    let mut shown = [0u8; 500];
+    block_rows(rec, h, &mut blocks);
+    edge_rows(rec, h, &mut edges);
+    shown_rows(isa, rec, h, &mut shown);
+    let b = part_u16(&blocks, 8 * size(h.blocks));
+    let e = part_u16(&edges, 2 * size(h.edges));
+    let s = part(&shown, 0, size(h.instructions));
+    plan(
+        b,
+        e,
+        s,
+        part_from(rec, 24),
+        part_from(rec, targets_at(h)),
+        h.blocks,
+        from,
+        to,
+        h.indent,
+        out,
+    )
+}

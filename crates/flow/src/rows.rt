@@ -1,0 +1,167 @@
+// The rows of a record: eight numbers a block, two an edge, one an instruction, stored in lent lists.
+use crate::silent::ending_of;
+use crate::silent::is_quiet;
+use lists::reads::from;
+use lists::stores::store;
+use lists::stores::store_u16;
+use record::blocks::Place;
+use record::blocks::edge_kind_at;
+use record::blocks::edges_in;
+use record::blocks::instructions_in;
+use record::blocks::label_mark;
+use record::blocks::start_at;
+use record::blocks::target_at;
+use record::body::body_at;
+use record::body::op_number;
+use record::header::Header;
+use record::layout::bodies_at;
+use record::layout::edge_kinds_at;
+use record::layout::marks_at;
+use record::layout::size;
+use record::layout::targets_at;
+ghost use mathlib.Core.Path.{_≡_};
+ghost use mathlib.Core.List.{[], _∷_};
+ghost use Prim.Native.Nat.{_+_, _-_, _*_, _<_};
+ghost use lib.Dec.{eqb, leb};
+ghost use Rattle.lists.specs.Choice.{pick};
+ghost use Rattle.lists.specs.Put.{put};
+ghost use Rattle.record.specs.Body.{operandNumber};
+ghost use Rattle.x86.specs.Table.{isaBytes};
+ghost use Rattle.flow.specs.Silent.{isQuiet, endingOf};
+ghost use Rattle.flow.specs.Rows.{placeFrom, placeOf, blockRows, edgeRows, shownRows};
+ghost use Rattle.flow.specs.Counted.{Counted, BlockHas, rowEnding};
+
+// Of the blocks that start at an address the first; 65535 if there is none.
+fn place_in(starts: &[u8], blocks: u16, va: u64) -> u16
+    ensures { λ r. ⌜ r ≡ placeFrom (now (starts .entry)) va 0 blocks ⌝ }
+{
+    let mut place: u16 = 0;
+    while place < blocks {
+        if start_at(starts, Place(place)).0 == va {
+            return place;
+        }
+        place += 1;
+    }
+    65535
+}
+
+pub fn place_of(rec: &[u8], h: Header, va: u64) -> u16
+    ensures { λ r. ⌜ r ≡ placeOf h (now (rec .entry)) va ⌝ }
+{
+    place_in(from(rec, 24), h.blocks, va)
+}
+
+fn put_two(out: &mut [u16], at: usize, a: u16, b: u16)
+    requires { ⌜ at < 1_000_000 ⌝ }
+    ensures { λ _. ⌜ now (out .exit) ≡ put at (a ∷ b ∷ []) (now (out .entry)) ⌝ }
+{
+    store_u16(out, at, a);
+    store_u16(out, at + 1, b);
+}
+
+fn put_four(out: &mut [u16], at: usize, a: u16, b: u16, c: u16, d: u16)
+    requires { ⌜ at < 900_000 ⌝ }
+    ensures { λ _. ⌜ now (out .exit) ≡ put at (a ∷ b ∷ c ∷ d ∷ []) (now (out .entry)) ⌝ }
+{
+    put_two(out, at, a, b);
+    put_two(out, at + 2, c, d);
+}
+
+// The last of n instructions from the first on.
+fn last_at(first: u16, n: u16) -> u16
+    requires { ⌜ first + n < 65536 ⌝ }
+    ensures { λ r. ⌜ r ≡ first + n - 1 ⌝ }
+{
+    let e = first + n;
+    if e == 0 {
+        return 0;
+    }
+    e - 1
+}
+
+// How a block of n instructions ends, by its last one.
+fn ending_in(last: &[u8], n: u16) -> u8
+    ensures { λ r. ⌜ r ≡ pick (eqb n 0) 0 (endingOf (now (last .entry))) ⌝ }
+{
+    if n == 0 {
+        return 0;
+    }
+    ending_of(last)
+}
+
+// The place of a closing branch's target.
+fn branch_in(rec: &[u8], h: Header, last: &[u8], ending: u8) -> u16
+    ensures { λ r. ⌜ r ≡ pick (leb 2 ending) (placeOf h (now (rec .entry)) (operandNumber (now (last .entry)) 0)) 65535 ⌝ }
+{
+    if 2 <= ending {
+        return place_of(rec, h, op_number(last, 0));
+    }
+    65535
+}
+
+// The last four numbers of block k's row; its n instructions begin at the first.
+fn put_ending(rec: &[u8], h: Header, k: u16, first: u16, n: u16, out: &mut [u16])
+    requires { ⌜ BlockHas h (now rec) k first n ⌝ }
+    ensures { λ _. ⌜ now (out .exit) ≡ put (8 * k + 4) (rowEnding h (now (rec .entry)) k) (now (out .entry)) ⌝ }
+{
+    let label = label_mark(from(rec, marks_at(h)), Place(k));
+    let last = body_at(from(rec, bodies_at(h)), last_at(first, n));
+    let ending = ending_in(last, n);
+    let branch = branch_in(rec, h, last, ending);
+    put_four(out, 8 * size(k) + 4, label as u16, ending as u16, branch, 0);
+}
+
+pub fn block_rows(rec: &[u8], h: Header, out: &mut [u16])
+    requires { ⌜ Counted h (now rec) ⌝ }
+    ensures { λ _. ⌜ now (out .exit) ≡ put 0 (blockRows h (now (rec .entry))) (now (out .entry)) ⌝ }
+{
+    let marks = from(rec, marks_at(h));
+    let mut first: u16 = 0;
+    let mut edge: u16 = 0;
+    let mut k: u16 = 0;
+    while k < h.blocks {
+        let n = instructions_in(marks, Place(k));
+        let m = edges_in(marks, Place(k)) as u16;
+        put_four(out, 8 * size(k), first, n, edge, m);
+        put_ending(rec, h, k, first, n, out);
+        first += n;
+        edge += m;
+        k += 1;
+    }
+}
+
+pub fn edge_rows(rec: &[u8], h: Header, out: &mut [u16])
+    ensures { λ _. ⌜ now (out .exit) ≡ put 0 (edgeRows h (now (rec .entry))) (now (out .entry)) ⌝ }
+{
+    let targets = from(rec, targets_at(h));
+    let kinds = from(rec, edge_kinds_at(h));
+    let mut e: u16 = 0;
+    while e < h.edges {
+        let to = place_of(rec, h, target_at(targets, e).0);
+        put_two(out, 2 * size(e), to, edge_kind_at(kinds, e) as u16);
+        e += 1;
+    }
+}
+
+// 1 for an instruction that is not silent by itself.
+fn shown_of(isa: &[u8], frame: u16, body: &[u8]) -> u8
+    requires { ⌜ now isa ≡ isaBytes ⌝ }
+    ensures { λ r. ⌜ r ≡ pick (isQuiet frame (now (body .entry))) 0 1 ⌝ }
+{
+    if is_quiet(isa, frame, body) {
+        return 0;
+    }
+    1
+}
+
+pub fn shown_rows(isa: &[u8], rec: &[u8], h: Header, out: &mut [u8])
+    requires { ⌜ now isa ≡ isaBytes ⌝ }
+    ensures { λ _. ⌜ now (out .exit) ≡ put 0 (shownRows h (now (rec .entry))) (now (out .entry)) ⌝ }
+{
+    let bodies = from(rec, bodies_at(h));
+    let mut i: u16 = 0;
+    while i < h.instructions {
+        store(out, size(i), shown_of(isa, h.frame, body_at(bodies, i)));
+        i += 1;
+    }
+}

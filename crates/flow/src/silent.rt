@@ -1,0 +1,112 @@
+// Which instructions are silent by themselves, and how a block ends: over the part of the record that begins at a body.
+use record::body::condition_code;
+use record::body::mnemonic;
+use record::body::op_kind;
+use record::body::op_register;
+use record::body::skip_mark;
+use x86::registers::callee_saved;
+ghost use mathlib.Core.Path.{_≡_};
+ghost use mathlib.Core.Bool.{_||_};
+ghost use lib.Dec.{eqb};
+ghost use Prim.Native.Nat.{_≤_};
+ghost use Rattle.x86.specs.Table.{isaBytes};
+ghost use Rattle.flow.specs.Silent.{folded, padding, isSp, registerFirst, movesFrame, isPrologueNoise, isDirectJmp, isSkipped, isQuiet, endingOf};
+
+fn either(m: u8, a: u8, b: u8) -> bool
+    ensures { λ r. ⌜ r ≡ (eqb m a || eqb m b) ⌝ }
+{
+    (m == a) | (m == b)
+}
+
+// cmp, test, push, cdq, cqo, cdqe, cwde.
+fn is_folded(m: u8) -> bool
+    ensures { λ r. ⌜ r ≡ folded m ⌝ }
+{
+    (m == 38) | (m == 39) | (m == 21) | (m == 32) | (m == 33) | (m == 34) | (m == 35)
+}
+
+// leave, nop, int3, endbr64, endbr32.
+fn is_padding(m: u8) -> bool
+    ensures { λ r. ⌜ r ≡ padding m ⌝ }
+{
+    (41 <= m) & (m <= 45)
+}
+
+// esp and rsp.
+fn is_sp(r: u8) -> bool
+    ensures { λ b. ⌜ b ≡ isSp r ⌝ }
+{
+    (r == 0x44) | (r == 0x54)
+}
+
+fn register_first(body: &[u8]) -> bool
+    ensures { λ r. ⌜ r ≡ registerFirst (now (body .entry)) ⌝ }
+{
+    op_kind(body, 0) == 0
+}
+
+// A copy of the stack pointer to the frame register, if there is one, or a write of the stack pointer.
+fn moves_frame(frame: u16, body: &[u8]) -> bool
+    ensures { λ r. ⌜ r ≡ movesFrame frame (now (body .entry)) ⌝ }
+{
+    let to = op_register(body, 0);
+    ((frame != 0) & (to as u16 == frame) & (op_kind(body, 1) == 0) & is_sp(op_register(body, 1)))
+        | is_sp(to)
+}
+
+// Saves and restores of the registers that a callee saves, moves of the stack pointer, and padding.
+pub fn is_prologue_noise(isa: &[u8], frame: u16, body: &[u8]) -> bool
+    requires { ⌜ now isa ≡ isaBytes ⌝ }
+    ensures { λ r. ⌜ r ≡ isPrologueNoise frame (now (body .entry)) ⌝ }
+{
+    let m = mnemonic(body);
+    if either(m, 21, 22) {
+        return register_first(body) & callee_saved(isa, op_register(body, 0));
+    }
+    if either(m, 10, 9) {
+        return register_first(body) & is_sp(op_register(body, 0)) & (op_kind(body, 1) != 0);
+    }
+    if m == 1 {
+        return register_first(body) & moves_frame(frame, body);
+    }
+    if m == 5 {
+        return register_first(body) & is_sp(op_register(body, 0));
+    }
+    is_padding(m)
+}
+
+pub fn is_direct_jmp(body: &[u8]) -> bool
+    ensures { λ r. ⌜ r ≡ isDirectJmp (now (body .entry)) ⌝ }
+{
+    (mnemonic(body) == 25) & (op_kind(body, 0) == 2)
+}
+
+pub fn is_skipped(isa: &[u8], frame: u16, body: &[u8]) -> bool
+    requires { ⌜ now isa ≡ isaBytes ⌝ }
+    ensures { λ r. ⌜ r ≡ isSkipped frame (now (body .entry)) ⌝ }
+{
+    (skip_mark(body) == 1) | is_prologue_noise(isa, frame, body)
+}
+
+pub fn is_quiet(isa: &[u8], frame: u16, body: &[u8]) -> bool
+    requires { ⌜ now isa ≡ isaBytes ⌝ }
+    ensures { λ r. ⌜ r ≡ isQuiet frame (now (body .entry)) ⌝ }
+{
+    is_skipped(isa, frame, body) | is_folded(mnemonic(body)) | is_direct_jmp(body)
+}
+
+// How a block with this last instruction ends: 1 with a condition, 2 with a condition and a near branch, 3 with a direct jmp.
+pub fn ending_of(body: &[u8]) -> u8
+    ensures { λ r. ⌜ (r ≡ endingOf (now (body .entry))) × (r ≤ 3) ⌝ }
+{
+    if condition_code(body) == 0 {
+        if is_direct_jmp(body) {
+            return 3;
+        }
+        return 0;
+    }
+    if op_kind(body, 0) == 2 {
+        return 2;
+    }
+    1
+}
