@@ -7,3 +7,4 @@ pub mod Lent
 pub mod Sized
 pub mod Accepted
 pub mod Export
+pub mod Cases

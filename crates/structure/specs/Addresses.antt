@@ -1,17 +1,15 @@
 -- The instructions of a range's lines are those of its blocks that are not silent, in order.
 -- A clause a shape: each block's by `Heard`, the rest's by induction; the contexts are as many as the places.
 use mathlib.Core.Path.{_≡_, refl, sym, ap, _∙_}
-use mathlib.Core.Bool.{Bool, true, false, not, _&&_, _||_}
+use mathlib.Core.Bool.{Bool, true, false}
 use mathlib.Core.List.{List, [], _∷_, _++_, append-nil, append-assoc}
-use Prim.Native.Nat.{ℕ, zero, suc, _+_, _-_, _≤_, _<_}
+use Prim.Native.Nat.{ℕ, zero, suc, _+_, _-_, _≤_}
 use native.Mathlib.Numerals.{add-one}
 use native.Mathlib.Omega.{arith}
-use lib.Dec.{ltb, eqb}
 use lib.ListN.{length, replicate, length-append, length-replicate}
-use Rattle.lists.specs.Choice.{pick}
 use Rattle.structure.specs.Flow.{firstIn, countIn, endingIn, lastIn, labelWanted}
-use Rattle.structure.specs.Plan.{Line, Go, line, labelIf, plainLabel, bodyLines, closingLines, plainLines, flatBlock, flatLines, testBlock, loopLines, regionLines, step, shownLines, planOf}
-use Rattle.structure.specs.Plan.What.{label-line, do-line, open-line, if-goto, while-line, close-line}
+use Rattle.structure.specs.Plan.{Line, Go, line, labelIf, plainLabel, bodyLines, plainLines, flatBlock, flatLines, testBlock, loopLines, regionLines, step, planOf}
+use Rattle.structure.specs.Plan.What.{open-line, close-line}
 use Rattle.structure.specs.Demand.{Context, heard, heardIn, counted, contextsStep, contexts}
 use Rattle.structure.specs.Demand.Context.{in-range, in-body, last-in-body}
 use Rattle.structure.specs.Within.{Within, labelled, headLabelled}

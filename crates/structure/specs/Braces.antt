@@ -1,7 +1,7 @@
 -- Braces nest, and no line stands deeper than the range has places.
 -- Whatever nests, nests with a range's lines in front. Lines that open and close nothing are treated once, for both facts.
-use mathlib.Core.Path.{_≡_, refl, sym, ap, _∙_, subst}
-use mathlib.Core.Bool.{Bool, true, false, not, _&&_, _||_}
+use mathlib.Core.Path.{refl, subst}
+use mathlib.Core.Bool.{Bool, true, _&&_}
 use mathlib.Core.List.{List, [], _∷_, _++_, append-nil, append-assoc}
 use Prim.Native.Nat.{ℕ, zero, suc, _+_, _-_, _≤_, _<_}
 use native.Mathlib.Nat.{le-refl}
@@ -11,7 +11,7 @@ use Rattle.lists.specs.Choice.{pick}
 use Rattle.structure.specs.Flow.{firstIn, countIn, endingIn, branchTo, isBlock, lastIn, isShown, labelWanted}
 use Rattle.structure.specs.Plan.{What, Line, Go, line, labelIf, plainLabel, shownLines, bodyCount, bodyLines, jumpLines, closingLines, plainLines, flatBlock, flatLines, testBlock, loopLines, step, planOf}
 use Rattle.structure.specs.Plan.What.{label-line, do-line, open-line, if-goto, while-line, close-line, goto-line, tail-call, insn-line}
-use Rattle.structure.specs.Demand.{Context, Brace, Nested, Shallow, contextsStep}
+use Rattle.structure.specs.Demand.{Context, Brace, Nested, Shallow}
 use Rattle.structure.specs.Demand.Brace.{if-brace, do-brace}
 use Rattle.structure.specs.Within.{Within, pick-both, labelled, headLabelled}
 use Rattle.structure.specs.Ranges.{Of, Below, range-all}

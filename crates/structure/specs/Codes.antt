@@ -1,12 +1,11 @@
 -- A line as a number, and the laws by which writers of lines compose.
 -- The codes of two runs of lines are those of the first, then those of the second.
-use mathlib.Core.Path.{_≡_, refl, sym, ap, _∙_}
+use mathlib.Core.Path.{_≡_, refl}
 use mathlib.Core.Bool.{Bool, true, false}
 use mathlib.Core.List.{List, [], _∷_, _++_, map, map-append}
-use Prim.Native.Nat.{ℕ, zero, suc, _+_, _-_, _*_, _≤_, _<_}
+use Prim.Native.Nat.{ℕ, suc, _+_, _-_, _*_, _<_}
 use native.Mathlib.Numerals.{add-one}
 use native.Mathlib.Omega.{arith}
-use lib.ListN.{length, length-map}
 use Rattle.lists.specs.Choice.{pick}
 use Rattle.structure.specs.Flow.{isShown}
 use Rattle.structure.specs.Plan.{Line, line, codeOf, shownLines}

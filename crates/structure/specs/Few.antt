@@ -1,18 +1,18 @@
 -- A range has at most a line for each of its instructions and two for each of its blocks.
 -- A block has a label at most and a line for each instruction; a loop or a region has one line more.
-use mathlib.Core.Path.{_≡_, refl, sym, ap, _∙_}
-use mathlib.Core.Bool.{Bool, true, false, not, _&&_, _||_}
-use mathlib.Core.List.{List, [], _∷_, _++_}
+use mathlib.Core.Path.{_≡_, refl, ap, _∙_}
+use mathlib.Core.Bool.{Bool, true, false, _&&_, _||_}
+use mathlib.Core.List.{List, [], _∷_}
 use Prim.Native.Nat.{ℕ, zero, suc, _+_, _-_, _*_, _≤_, _<_, zero-le}
 use native.Mathlib.Nat.{le-refl}
 use native.Mathlib.Omega.{arith}
 use lib.Dec.{ltb, eqb}
 use lib.ListN.{getD, length, length-append}
-use borrow.Author.Tests.{eqb-true, eq-eqb}
+use borrow.Author.Tests.{eq-eqb}
 use Rattle.lists.specs.Choice.{pick, sumBelow}
 use Rattle.structure.specs.Flow.{firstIn, countIn, endingIn, branchTo, isBlock, lastIn, isShown, labelWanted}
-use Rattle.structure.specs.Plan.{Line, Go, line, labelIf, plainLabel, shownLines, bodyCount, bodyLines, jumpLines, closingLines, plainLines, flatBlock, flatLines, testBlock, loopLines, regionLines, step, planOf}
-use Rattle.structure.specs.Plan.What.{if-goto, goto-line, tail-call, insn-line}
+use Rattle.structure.specs.Plan.{Line, Go, line, labelIf, shownLines, bodyCount, closingLines, plainLines, flatBlock, flatLines, testBlock, loopLines, step, planOf}
+use Rattle.structure.specs.Plan.What.{if-goto, goto-line, tail-call}
 use Rattle.structure.specs.Demand.{Context, instructionsFrom}
 use Rattle.structure.specs.Within.{Within, pick-both, ends-some, labelled, headLabelled}
 use Rattle.structure.specs.Ranges.{Of, Below, range-all}

@@ -1,17 +1,17 @@
 -- The instructions of a block's lines are those that are not silent there: of a plain block, of one in a do-body, of its last.
 -- A block's lines are its shown instructions and at most one line for the last; so is the silent list.
 use mathlib.Core.Path.{_≡_, refl, sym, ap, _∙_}
-use mathlib.Core.Bool.{Bool, true, false, not, _&&_, _||_}
-use mathlib.Core.List.{List, [], _∷_, _++_, append-nil, append-assoc}
-use Prim.Native.Nat.{ℕ, zero, suc, _+_, _-_, _≤_, _<_}
+use mathlib.Core.Bool.{Bool, true, false, not, _&&_}
+use mathlib.Core.List.{List, [], _∷_, _++_, append-assoc}
+use Prim.Native.Nat.{ℕ, zero, suc, _+_, _-_, _≤_}
 use native.Mathlib.Nat.{add-zero}
 use native.Mathlib.Omega.{arith}
 use lib.Dec.{ltb, eqb}
-use lib.ListN.{length, replicate}
-use borrow.Author.Tests.{eqb-true, eq-eqb, ne-eqb}
+use lib.ListN.{length}
+use borrow.Author.Tests.{eq-eqb, ne-eqb}
 use Rattle.lists.specs.Choice.{pick}
-use Rattle.structure.specs.Flow.{firstIn, countIn, endingIn, branchTo, isBlock, lastIn, isShown, labelWanted}
-use Rattle.structure.specs.Plan.{What, Line, line, labelIf, shownLines, bodyCount, bodyLines, jumpLines, closingLines, flatBlock, flatLines, testBlock}
+use Rattle.structure.specs.Flow.{firstIn, countIn, endingIn, branchTo, isBlock, lastIn, isShown}
+use Rattle.structure.specs.Plan.{What, Line, line, shownLines, bodyCount, bodyLines, jumpLines, closingLines}
 use Rattle.structure.specs.Plan.What.{label-line, do-line, open-line, if-goto, while-line, close-line, goto-line, tail-call, insn-line}
 use Rattle.structure.specs.Demand.{Context, lastSilent, silent, heard, heardIn, count, counted}
 use Rattle.structure.specs.Demand.Context.{in-range, in-body, last-in-body}

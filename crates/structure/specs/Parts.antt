@@ -1,17 +1,16 @@
 -- The codes of a block's, a loop's and a region's lines, in the parts that are written one after the other.
 -- By the definitions, and the codes of two runs.
-use mathlib.Core.Path.{_≡_, refl, sym, ap, _∙_}
-use mathlib.Core.Bool.{Bool, _&&_}
-use mathlib.Core.List.{List, [], _∷_, _++_, map, map-append, append-assoc}
-use Prim.Native.Nat.{ℕ, zero, suc, _+_, _-_, _<_}
+use mathlib.Core.Path.{_≡_, refl}
+use mathlib.Core.Bool.{_&&_}
+use mathlib.Core.List.{List, [], _∷_, _++_, map-append, append-assoc}
+use Prim.Native.Nat.{ℕ, suc, _+_, _-_, _<_}
 use native.Mathlib.Numerals.{add-one}
 use native.Mathlib.Omega.{arith}
 use lib.Dec.{ltb, eqb}
-use lib.ListN.{length}
 use Rattle.lists.specs.Choice.{pick}
-use Rattle.structure.specs.Flow.{firstIn, countIn, endingIn, lastIn, labelWanted, outsideJump}
+use Rattle.structure.specs.Flow.{firstIn, countIn, endingIn, lastIn, labelWanted}
 use Rattle.structure.specs.Plan.{Line, Go, line, labelIf, plainLabel, bodyLines, shownLines, closingLines, plainLines, flatBlock, flatLines, testBlock, loopLines, regionLines}
-use Rattle.structure.specs.Plan.What.{label-line, do-line, open-line, if-goto, while-line, close-line}
+use Rattle.structure.specs.Plan.What.{do-line, open-line, if-goto, while-line, close-line}
 use Rattle.structure.specs.Within.{headLabelled}
 use Rattle.structure.specs.Codes.{codes, codes-join, codes-three}
 use Rattle.structure.specs.Stored.{Splits, Three}

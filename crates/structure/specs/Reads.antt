@@ -1,6 +1,6 @@
 -- What a line's code tells: what the line is, its place, its instruction, its indent.
 -- Each is a digit of the code, in bases 16 and 65536.
-use mathlib.Core.Path.{_≡_, refl, sym, ap, _∙_}
+use mathlib.Core.Path.{_≡_}
 use Prim.Native.Nat.{ℕ, _+_, _*_, _/_, _%_, _<_}
 use native.Mathlib.Omega.{arith}
 use Rattle.structure.specs.Plan.{What, Line, whatNumber, codeOf}

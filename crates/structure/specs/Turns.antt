@@ -1,14 +1,11 @@
 -- What a turn of the range writer stores: the codes of what stands at a place, then those of the rest of the range.
 -- By the definition without fuel, a law a shape; and how far a shape reaches.
-use mathlib.Core.Path.{_≡_, refl, sym, ap, _∙_, subst}
+use mathlib.Core.Path.{_≡_, ap, _∙_, subst}
 use mathlib.Core.Bool.{true}
 use mathlib.Core.List.{List, []}
-use Prim.Native.Nat.{ℕ, _+_, _-_, _*_, _≤_, _<_}
-use native.Mathlib.Omega.{arith}
-use lib.ListN.{length, length-map}
-use Rattle.structure.specs.Flow.{countIn}
+use Prim.Native.Nat.{ℕ, _+_, _≤_, _<_}
 use Rattle.structure.specs.Shape.{shapeAt}
-use Rattle.structure.specs.Plan.{Line, codeOf, plainLines, loopLines, regionLines, step, rangeLines}
+use Rattle.structure.specs.Plan.{Line, plainLines, loopLines, regionLines, step, rangeLines}
 use Rattle.structure.specs.Within.{Within, shape-within}
 use Rattle.structure.specs.Ranges.{range-stop, range-step}
 use Rattle.structure.specs.Codes.{codes, codes-join}

@@ -1,15 +1,10 @@
 -- How many instructions stand before a closing branch: `body_count` meets its contract.
 -- By how the block ends.
-use mathlib.Core.Path.{_≡_, refl, sym, ap, _∙_}
+use mathlib.Core.Path.{sym}
 use Rattle.structure.specs.Plan.{bodyCount}
 use borrow.Author.Needs.{needs}
 use Rattle.structure.proofs.blocks.body_count.Statement.{statement}
 use Rattle.structure.proofs.blocks.body_count.Tie as tie
-use Rattle.structure.proofs.blocks.body_count.Reads as reads
-use Rattle.structure.proofs.blocks.body_count.Lts as lts
-use Rattle.structure.proofs.flow.count_in.Reads as count-in-reads
-use Rattle.structure.proofs.flow.ending_in.Reads as ending-in-reads
-use Rattle.structure.proofs.lines.one_less.Reads as one-less-reads
 
 count-in-requires : tie.Need-count-in-requires
 count-in-requires c κs = search needs

@@ -1,14 +1,8 @@
 -- The lines of a block's shown instructions: `body_lines` meets its contract.
 -- One run, of the numbers that were read.
-use mathlib.Core.Path.{_≡_, refl, sym, ap, _∙_}
 use borrow.Author.Needs.{needs}
 use Rattle.structure.proofs.blocks.body_lines.Statement.{statement}
 use Rattle.structure.proofs.blocks.body_lines.Tie as tie
-use Rattle.structure.proofs.blocks.body_lines.Reads as reads
-use Rattle.structure.proofs.blocks.body_lines.Lts as lts
-use Rattle.structure.proofs.blocks.body_count.Reads as body-count-reads
-use Rattle.structure.proofs.flow.first_in.Reads as first-in-reads
-use Rattle.structure.proofs.lines.shown_lines.Reads as shown-lines-reads
 
 first-in-requires : tie.Need-first-in-requires
 first-in-requires c κs = search needs

@@ -1,18 +1,12 @@
 -- The line of a block's closing branch or jmp: `closing_line` meets its contract.
 -- By how the block ends.
-use mathlib.Core.Path.{_≡_, refl, sym, ap, _∙_}
-use borrow.Author.Tests.{eq-eqb, ne-eqb, lt-ltb, le-ltb}
+use mathlib.Core.Path.{sym}
+use borrow.Author.Tests.{eq-eqb, ne-eqb}
 use Rattle.structure.specs.Plan.{closingLines}
 use Rattle.structure.specs.Stored.{stored-none, room-one}
 use borrow.Author.Needs.{needs}
 use Rattle.structure.proofs.blocks.closing_line.Statement.{statement}
 use Rattle.structure.proofs.blocks.closing_line.Tie as tie
-use Rattle.structure.proofs.blocks.closing_line.Reads as reads
-use Rattle.structure.proofs.blocks.closing_line.Lts as lts
-use Rattle.structure.proofs.blocks.jump_line.Reads as jump-line-reads
-use Rattle.structure.proofs.flow.ending_in.Reads as ending-in-reads
-use Rattle.structure.proofs.flow.last_in.Reads as last-in-reads
-use Rattle.structure.proofs.lines.put_line.Reads as put-line-reads
 
 ending-in-requires : tie.Need-ending-in-requires
 ending-in-requires c κs = search needs

@@ -1,18 +1,10 @@
 -- The block of an if-region: `emit_head` meets its contract.
 -- Its label, its shown instructions, its opening line, one after the other.
-use mathlib.Core.Path.{_≡_, refl, sym, ap, _∙_}
 use Rattle.structure.specs.Parts.{head-parts}
 use Rattle.structure.specs.Stored.{room-first, room-second, room-third, stored-three, room-one}
 use borrow.Author.Needs.{needs}
 use Rattle.structure.proofs.blocks.emit_head.Statement.{statement}
 use Rattle.structure.proofs.blocks.emit_head.Tie as tie
-use Rattle.structure.proofs.blocks.emit_head.Reads as reads
-use Rattle.structure.proofs.blocks.emit_head.Lts as lts
-use Rattle.structure.proofs.blocks.body_lines.Reads as body-lines-reads
-use Rattle.structure.proofs.blocks.is_labelled.Reads as is-labelled-reads
-use Rattle.structure.proofs.flow.last_in.Reads as last-in-reads
-use Rattle.structure.proofs.lines.label.Reads as label-reads
-use Rattle.structure.proofs.lines.put_line.Reads as put-line-reads
 
 is-labelled-requires : tie.Need-is-labelled-requires
 is-labelled-requires c κs = search needs

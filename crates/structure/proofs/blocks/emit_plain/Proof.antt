@@ -1,17 +1,10 @@
 -- A plain block: `emit_plain` meets its contract.
 -- Its label, its shown instructions, its closing line, one after the other.
-use mathlib.Core.Path.{_≡_, refl, sym, ap, _∙_}
 use Rattle.structure.specs.Parts.{plain-parts}
-use Rattle.structure.specs.Stored.{room-first, room-second, room-third, stored-three, room-one}
+use Rattle.structure.specs.Stored.{room-first, room-second, room-third, stored-three}
 use borrow.Author.Needs.{needs}
 use Rattle.structure.proofs.blocks.emit_plain.Statement.{statement}
 use Rattle.structure.proofs.blocks.emit_plain.Tie as tie
-use Rattle.structure.proofs.blocks.emit_plain.Reads as reads
-use Rattle.structure.proofs.blocks.emit_plain.Lts as lts
-use Rattle.structure.proofs.blocks.body_lines.Reads as body-lines-reads
-use Rattle.structure.proofs.blocks.closing_line.Reads as closing-line-reads
-use Rattle.structure.proofs.blocks.is_labelled.Reads as is-labelled-reads
-use Rattle.structure.proofs.lines.label.Reads as label-reads
 
 is-labelled-requires : tie.Need-is-labelled-requires
 is-labelled-requires c κs = search needs

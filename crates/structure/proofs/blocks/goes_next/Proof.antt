@@ -3,9 +3,6 @@
 use borrow.Author.Needs.{needs}
 use Rattle.structure.proofs.blocks.goes_next.Statement.{statement}
 use Rattle.structure.proofs.blocks.goes_next.Tie as tie
-use Rattle.structure.proofs.blocks.goes_next.Reads as reads
-use Rattle.structure.proofs.blocks.goes_next.Lts as lts
-use Rattle.structure.proofs.flow.branch_to.Reads as branch-to-reads
 
 cast-next : tie.Need-cast-next
 cast-next c = search needs

@@ -1,14 +1,10 @@
 -- Whether a block of a range has a label: `is_labelled` meets its contract.
 -- By the tests in order.
-use mathlib.Core.Path.{_≡_, refl, sym, ap, _∙_}
-use borrow.Author.Tests.{eq-eqb, ne-eqb, lt-ltb, le-ltb}
+use mathlib.Core.Path.{sym}
+use borrow.Author.Tests.{lt-ltb, le-ltb}
 use borrow.Author.Needs.{needs}
 use Rattle.structure.proofs.blocks.is_labelled.Statement.{statement}
 use Rattle.structure.proofs.blocks.is_labelled.Tie as tie
-use Rattle.structure.proofs.blocks.is_labelled.Reads as reads
-use Rattle.structure.proofs.blocks.is_labelled.Lts as lts
-use Rattle.structure.proofs.flow.label_wanted.Reads as label-wanted-reads
-use Rattle.structure.proofs.tests.has_outside_jump_to.Reads as has-outside-jump-to-reads
 
 label-wanted-requires : tie.Need-label-wanted-requires
 label-wanted-requires c κs = search needs

@@ -1,17 +1,11 @@
 -- The line of a last direct jmp: `jump_line` meets its contract.
 -- By whether it goes to the next place, then whether it goes to a block.
-use mathlib.Core.Path.{_≡_, refl, sym, ap, _∙_}
-use borrow.Author.Tests.{eq-eqb, ne-eqb, lt-ltb, le-ltb}
+use mathlib.Core.Path.{sym}
+use borrow.Author.Tests.{eq-eqb, ne-eqb}
 use Rattle.structure.specs.Stored.{stored-none, room-one}
 use borrow.Author.Needs.{needs}
 use Rattle.structure.proofs.blocks.jump_line.Statement.{statement}
 use Rattle.structure.proofs.blocks.jump_line.Tie as tie
-use Rattle.structure.proofs.blocks.jump_line.Reads as reads
-use Rattle.structure.proofs.blocks.jump_line.Lts as lts
-use Rattle.structure.proofs.blocks.goes_next.Reads as goes-next-reads
-use Rattle.structure.proofs.flow.branch_to.Reads as branch-to-reads
-use Rattle.structure.proofs.flow.last_in.Reads as last-in-reads
-use Rattle.structure.proofs.lines.put_line.Reads as put-line-reads
 
 goes-next-requires : tie.Need-goes-next-requires
 goes-next-requires c κs = search needs

@@ -2,7 +2,7 @@
 -- The invariant: none of the edges so far is one.
 use mathlib.Core.Path.{_≡_, sym, _∙_}
 use mathlib.Core.Bool.{false}
-use Prim.Native.Nat.{ℕ, _+_, _-_, _≤_}
+use Prim.Native.Nat.{_+_, _-_, _≤_}
 use Rattle.lists.specs.Choice.{anyBelow}
 use Rattle.lists.specs.Below.{any-goes-on}
 use Rattle.structure.specs.Flow.{jumpTo}
@@ -10,11 +10,6 @@ use Rattle.structure.proofs.Found.{edge-found, edge-none}
 use borrow.Author.Needs.{needs}
 use Rattle.structure.proofs.edges.has_jump_to.Statement.{statement}
 use Rattle.structure.proofs.edges.has_jump_to.Tie as tie
-use Rattle.structure.proofs.edges.has_jump_to.Reads as reads
-use Rattle.structure.proofs.edges.has_jump_to.Lts as lts
-use Rattle.structure.proofs.edges.is_jump_to.Reads as is-jump-to-reads
-use Rattle.structure.proofs.flow.edges_in.Reads as edges-in-reads
-use Rattle.structure.proofs.flow.first_edge_in.Reads as first-edge-in-reads
 
 abbrev Inv-loop : tie.InvT-loop
 Inv-loop blocks edges i first n m₀ m = (m ≤ n) × (first + n ≤ 131070) × (anyBelow (λ j. jumpTo blocks edges (i .0) (first + j)) m ≡ false)

@@ -2,7 +2,7 @@
 -- The invariant: none of the edges so far is one.
 use mathlib.Core.Path.{_≡_, sym, _∙_}
 use mathlib.Core.Bool.{false}
-use Prim.Native.Nat.{ℕ, _+_, _-_, _≤_}
+use Prim.Native.Nat.{_+_, _-_, _≤_}
 use Rattle.lists.specs.Choice.{anyBelow}
 use Rattle.lists.specs.Below.{any-goes-on}
 use Rattle.structure.specs.Flow.{leaves}
@@ -10,11 +10,6 @@ use Rattle.structure.proofs.Found.{edge-found, edge-none}
 use borrow.Author.Needs.{needs}
 use Rattle.structure.proofs.edges.has_leaving_edge.Statement.{statement}
 use Rattle.structure.proofs.edges.has_leaving_edge.Tie as tie
-use Rattle.structure.proofs.edges.has_leaving_edge.Reads as reads
-use Rattle.structure.proofs.edges.has_leaving_edge.Lts as lts
-use Rattle.structure.proofs.edges.is_leaving.Reads as is-leaving-reads
-use Rattle.structure.proofs.flow.edges_in.Reads as edges-in-reads
-use Rattle.structure.proofs.flow.first_edge_in.Reads as first-edge-in-reads
 
 abbrev Inv-loop : tie.InvT-loop
 Inv-loop blocks edges starts targets from join first n m₀ m = (m ≤ n) × (first + n ≤ 131070) × (anyBelow (λ j. leaves blocks edges starts targets (from .0) (join .0) (first + j)) m ≡ false)

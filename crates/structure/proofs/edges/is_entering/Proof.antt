@@ -3,9 +3,6 @@
 use borrow.Author.Needs.{needs}
 use Rattle.structure.proofs.edges.is_entering.Statement.{statement}
 use Rattle.structure.proofs.edges.is_entering.Tie as tie
-use Rattle.structure.proofs.edges.is_entering.Reads as reads
-use Rattle.structure.proofs.edges.is_entering.Lts as lts
-use Rattle.structure.proofs.flow.edge_to.Reads as edge-to-reads
 
 edge-to-requires : tie.Need-edge-to-requires
 edge-to-requires c κs = search needs

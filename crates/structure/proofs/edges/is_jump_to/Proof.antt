@@ -3,10 +3,6 @@
 use borrow.Author.Needs.{needs}
 use Rattle.structure.proofs.edges.is_jump_to.Statement.{statement}
 use Rattle.structure.proofs.edges.is_jump_to.Tie as tie
-use Rattle.structure.proofs.edges.is_jump_to.Reads as reads
-use Rattle.structure.proofs.edges.is_jump_to.Lts as lts
-use Rattle.structure.proofs.flow.edge_kind.Reads as edge-kind-reads
-use Rattle.structure.proofs.flow.edge_to.Reads as edge-to-reads
 
 edge-to-requires : tie.Need-edge-to-requires
 edge-to-requires c κs = search needs

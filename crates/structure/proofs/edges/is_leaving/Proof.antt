@@ -3,10 +3,6 @@
 use borrow.Author.Needs.{needs}
 use Rattle.structure.proofs.edges.is_leaving.Statement.{statement}
 use Rattle.structure.proofs.edges.is_leaving.Tie as tie
-use Rattle.structure.proofs.edges.is_leaving.Reads as reads
-use Rattle.structure.proofs.edges.is_leaving.Lts as lts
-use Rattle.structure.proofs.flow.start_at.Reads as start-at-reads
-use Rattle.structure.proofs.flow.target_at.Reads as target-at-reads
 
 target-at-requires : tie.Need-target-at-requires
 target-at-requires c κs = search needs

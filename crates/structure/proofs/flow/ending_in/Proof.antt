@@ -6,10 +6,6 @@ use Rattle.structure.specs.Flow.{endingIn}
 use borrow.Author.Needs.{needs}
 use Rattle.structure.proofs.flow.ending_in.Statement.{statement}
 use Rattle.structure.proofs.flow.ending_in.Tie as tie
-use Rattle.structure.proofs.flow.ending_in.Reads as reads
-use Rattle.structure.proofs.flow.ending_in.Lts as lts
-use Rattle.lists.proofs.reads.u16_in.Reads as u16-in-reads
-use Rattle.structure.proofs.flow.count_in.Reads as count-in-reads
 
 count-in-requires : tie.Need-count-in-requires
 count-in-requires c κs = search needs

@@ -3,9 +3,6 @@
 use borrow.Author.Needs.{needs}
 use Rattle.structure.proofs.flow.has_condition.Statement.{statement}
 use Rattle.structure.proofs.flow.has_condition.Tie as tie
-use Rattle.structure.proofs.flow.has_condition.Reads as reads
-use Rattle.structure.proofs.flow.has_condition.Lts as lts
-use Rattle.structure.proofs.flow.ending_in.Reads as ending-in-reads
 
 ending-in-requires : tie.Need-ending-in-requires
 ending-in-requires c κs = search needs

@@ -3,9 +3,6 @@
 use borrow.Author.Needs.{needs}
 use Rattle.structure.proofs.flow.is_shown.Statement.{statement}
 use Rattle.structure.proofs.flow.is_shown.Tie as tie
-use Rattle.structure.proofs.flow.is_shown.Reads as reads
-use Rattle.structure.proofs.flow.is_shown.Lts as lts
-use Rattle.lists.proofs.reads.u8_at.Reads as u8-at-reads
 
 u8-at-requires : tie.Need-u8-at-requires
 u8-at-requires c κs = search needs

@@ -3,9 +3,6 @@
 use borrow.Author.Needs.{needs}
 use Rattle.structure.proofs.flow.label_wanted.Statement.{statement}
 use Rattle.structure.proofs.flow.label_wanted.Tie as tie
-use Rattle.structure.proofs.flow.label_wanted.Reads as reads
-use Rattle.structure.proofs.flow.label_wanted.Lts as lts
-use Rattle.lists.proofs.reads.u16_in.Reads as u16-in-reads
 
 cast-u16-in : tie.Need-cast-u16-in
 cast-u16-in c = search needs

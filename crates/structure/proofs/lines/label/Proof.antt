@@ -1,14 +1,9 @@
 -- A label, if wanted: `label` meets its contract.
 -- By whether it is wanted.
-use mathlib.Core.Path.{_≡_, refl, sym, ap, _∙_}
 use Rattle.structure.specs.Stored.{stored-none, room-one}
 use borrow.Author.Needs.{needs}
 use Rattle.structure.proofs.lines.label.Statement.{statement}
 use Rattle.structure.proofs.lines.label.Tie as tie
-use Rattle.structure.proofs.lines.label.Reads as reads
-use Rattle.structure.proofs.lines.label.Lts as lts
-use Rattle.structure.proofs.lines.one_less.Reads as one-less-reads
-use Rattle.structure.proofs.lines.put_line.Reads as put-line-reads
 
 one-less-requires : tie.Need-one-less-requires
 one-less-requires c κs = search needs

@@ -1,13 +1,9 @@
 -- One line: `put_line` meets its contract.
 -- One store of its code.
-use mathlib.Core.Path.{_≡_, refl, sym, ap, _∙_}
+use mathlib.Core.Path.{refl}
 use borrow.Author.Needs.{needs}
 use Rattle.structure.proofs.lines.put_line.Statement.{statement}
 use Rattle.structure.proofs.lines.put_line.Tie as tie
-use Rattle.structure.proofs.lines.put_line.Reads as reads
-use Rattle.structure.proofs.lines.put_line.Lts as lts
-use Rattle.lists.proofs.stores.store_u64.Reads as store-u64-reads
-use Rattle.structure.proofs.lines.line_code.Reads as line-code-reads
 
 line-code-requires : tie.Need-line-code-requires
 line-code-requires c κs = search needs

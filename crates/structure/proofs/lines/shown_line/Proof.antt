@@ -1,14 +1,10 @@
 -- The line of an instruction, if it is shown: `shown_line` meets its contract.
 -- By whether it is shown.
-use mathlib.Core.Path.{_≡_, refl, sym, ap, _∙_}
+use mathlib.Core.Path.{sym}
 use Rattle.structure.specs.Stored.{stored-none}
 use borrow.Author.Needs.{needs}
 use Rattle.structure.proofs.lines.shown_line.Statement.{statement}
 use Rattle.structure.proofs.lines.shown_line.Tie as tie
-use Rattle.structure.proofs.lines.shown_line.Reads as reads
-use Rattle.structure.proofs.lines.shown_line.Lts as lts
-use Rattle.structure.proofs.flow.is_shown.Reads as is-shown-reads
-use Rattle.structure.proofs.lines.put_line.Reads as put-line-reads
 
 is-shown-requires : tie.Need-is-shown-requires
 is-shown-requires c κs = search needs

@@ -1,20 +1,16 @@
 -- The lines of a run of instructions: `shown_lines` meets its contract.
 -- The invariant: to store the lines of the instructions that are left is to store those of all.
-use mathlib.Core.Path.{_≡_, refl, sym, ap, _∙_}
-use Prim.Native.Nat.{ℕ, suc, _+_, _-_, _≤_}
-use native.Mathlib.Numerals.{add-one}
+use mathlib.Core.Path.{_≡_, ap, _∙_}
+use Prim.Native.Nat.{ℕ, _+_, _-_, _≤_}
 use Rattle.structure.specs.Plan.{shownLines}
-use Rattle.structure.specs.Codes.{codes, shown-splits, shown-turn, shown-over}
+use Rattle.structure.specs.Codes.{codes, shown-turn, shown-over}
 use Rattle.structure.specs.Stored.{Left, left-all, left-step, left-done, left-part, left-length}
 use borrow.Author.Needs.{needs}
 use native.Mathlib.Omega.{arith}
-use Rattle.structure.specs.Codes.{codes, shown-splits, shown-turn}
-use Rattle.structure.specs.Stored.{Left, left-all, left-step, left-done, left-part, stored-none}
+use Rattle.structure.specs.Codes.{codes, shown-turn}
+use Rattle.structure.specs.Stored.{Left, left-all, left-step, left-done, left-part}
 use Rattle.structure.proofs.lines.shown_lines.Statement.{statement}
 use Rattle.structure.proofs.lines.shown_lines.Tie as tie
-use Rattle.structure.proofs.lines.shown_lines.Reads as reads
-use Rattle.structure.proofs.lines.shown_lines.Lts as lts
-use Rattle.structure.proofs.lines.shown_line.Reads as shown-line-reads
 
 abbrev Inv-loop : tie.InvT-loop
 Inv-loop shown k first n indent out₀ at end i₀ next₀ out i next = (i ≤ end) × Left out₀ at (codes (shownLines shown (k .0) first n indent)) out next (codes (shownLines shown (k .0) i (end - i) indent))

@@ -5,10 +5,6 @@ use Rattle.structure.specs.Stored.{stored-none, room-second, room-third,
 use borrow.Author.Needs.{needs}
 use Rattle.structure.proofs.loops.emit_do.Statement.{statement}
 use Rattle.structure.proofs.loops.emit_do.Tie as tie
-use Rattle.structure.proofs.loops.emit_do.Reads as reads
-use Rattle.structure.proofs.loops.emit_do.Lts as lts
-use Rattle.structure.proofs.loops.flat_lines.Reads as flat-lines-reads
-use Rattle.structure.proofs.loops.test_block.Reads as test-block-reads
 
 add-flat-lines : tie.Need-add-flat-lines
 add-flat-lines c = search needs

@@ -1,17 +1,10 @@
 -- A do-loop: `emit_loop` meets its contract.
 -- Its head's label, its do-line, its body, one after the other.
-use mathlib.Core.Path.{_≡_, refl, sym, ap, _∙_}
 use Rattle.structure.specs.Parts.{loop-parts}
 use Rattle.structure.specs.Stored.{room-first, room-second, room-third, room-one, stored-three}
 use borrow.Author.Needs.{needs}
 use Rattle.structure.proofs.loops.emit_loop.Statement.{statement}
 use Rattle.structure.proofs.loops.emit_loop.Tie as tie
-use Rattle.structure.proofs.loops.emit_loop.Reads as reads
-use Rattle.structure.proofs.loops.emit_loop.Lts as lts
-use Rattle.structure.proofs.lines.label.Reads as label-reads
-use Rattle.structure.proofs.lines.put_line.Reads as put-line-reads
-use Rattle.structure.proofs.loops.emit_do.Reads as emit-do-reads
-use Rattle.structure.proofs.loops.head_labelled.Reads as head-labelled-reads
 
 head-labelled-requires : tie.Need-head-labelled-requires
 head-labelled-requires c κs = search needs

@@ -1,17 +1,10 @@
 -- A block of a do-body: `flat_block` meets its contract.
 -- Its label, its shown instructions, its closing branch, one after the other.
-use mathlib.Core.Path.{_≡_, refl, sym, ap, _∙_}
 use Rattle.structure.specs.Parts.{flat-parts}
 use Rattle.structure.specs.Stored.{room-first, room-second, room-third, stored-three}
 use borrow.Author.Needs.{needs}
 use Rattle.structure.proofs.loops.flat_block.Statement.{statement}
 use Rattle.structure.proofs.loops.flat_block.Tie as tie
-use Rattle.structure.proofs.loops.flat_block.Reads as reads
-use Rattle.structure.proofs.loops.flat_block.Lts as lts
-use Rattle.structure.proofs.blocks.body_lines.Reads as body-lines-reads
-use Rattle.structure.proofs.flow.label_wanted.Reads as label-wanted-reads
-use Rattle.structure.proofs.lines.label.Reads as label-reads
-use Rattle.structure.proofs.loops.branch_line.Reads as branch-line-reads
 
 label-wanted-requires : tie.Need-label-wanted-requires
 label-wanted-requires c κs = search needs

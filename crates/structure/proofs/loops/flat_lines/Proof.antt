@@ -1,7 +1,7 @@
 -- The blocks of a do-body before its last: `flat_lines` meets its contract.
 -- The invariant: to store the lines of the blocks that are left is to store those of all.
-use mathlib.Core.Path.{_≡_, refl, sym, ap, _∙_}
-use Prim.Native.Nat.{ℕ, _+_, _-_, _≤_}
+use mathlib.Core.Path.{_≡_, ap, _∙_}
+use Prim.Native.Nat.{ℕ, _-_}
 use Rattle.structure.specs.Plan.{flatLines}
 use Rattle.structure.specs.Codes.{codes}
 use Rattle.structure.specs.Parts.{flats-turn, flats-over}
@@ -10,9 +10,6 @@ use borrow.Author.Needs.{needs}
 use native.Mathlib.Omega.{arith}
 use Rattle.structure.proofs.loops.flat_lines.Statement.{statement}
 use Rattle.structure.proofs.loops.flat_lines.Tie as tie
-use Rattle.structure.proofs.loops.flat_lines.Reads as reads
-use Rattle.structure.proofs.loops.flat_lines.Lts as lts
-use Rattle.structure.proofs.loops.flat_block.Reads as flat-block-reads
 
 abbrev Inv-loop : tie.InvT-loop
 Inv-loop blocks shown i indent out₀ at last k₀ next₀ out k next = Left out₀ at (codes (flatLines blocks shown (i .0) (i .0) (last - i .0) indent)) out next (codes (flatLines blocks shown (i .0) k (last - k) indent))

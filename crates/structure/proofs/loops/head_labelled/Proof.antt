@@ -1,13 +1,9 @@
 -- Whether a do-head has a label: `head_labelled` meets its contract.
 -- By whether it wants one.
-use mathlib.Core.Path.{_≡_, refl, sym, ap, _∙_}
+use mathlib.Core.Path.{sym}
 use borrow.Author.Needs.{needs}
 use Rattle.structure.proofs.loops.head_labelled.Statement.{statement}
 use Rattle.structure.proofs.loops.head_labelled.Tie as tie
-use Rattle.structure.proofs.loops.head_labelled.Reads as reads
-use Rattle.structure.proofs.loops.head_labelled.Lts as lts
-use Rattle.structure.proofs.flow.label_wanted.Reads as label-wanted-reads
-use Rattle.structure.proofs.tests.has_outside_jump_to.Reads as has-outside-jump-to-reads
 
 label-wanted-requires : tie.Need-label-wanted-requires
 label-wanted-requires c κs = search needs

@@ -1,21 +1,10 @@
 -- The last block of a do-body: `test_block` meets its contract.
 -- Its label, its shown instructions before the last, its while-line, one after the other.
-use mathlib.Core.Path.{_≡_, refl, sym, ap, _∙_}
 use Rattle.structure.specs.Parts.{test-parts}
 use Rattle.structure.specs.Stored.{room-first, room-second, room-third, stored-three, room-one}
 use borrow.Author.Needs.{needs}
 use Rattle.structure.proofs.loops.test_block.Statement.{statement}
 use Rattle.structure.proofs.loops.test_block.Tie as tie
-use Rattle.structure.proofs.loops.test_block.Reads as reads
-use Rattle.structure.proofs.loops.test_block.Lts as lts
-use Rattle.structure.proofs.flow.count_in.Reads as count-in-reads
-use Rattle.structure.proofs.flow.first_in.Reads as first-in-reads
-use Rattle.structure.proofs.flow.label_wanted.Reads as label-wanted-reads
-use Rattle.structure.proofs.flow.last_in.Reads as last-in-reads
-use Rattle.structure.proofs.lines.label.Reads as label-reads
-use Rattle.structure.proofs.lines.one_less.Reads as one-less-reads
-use Rattle.structure.proofs.lines.put_line.Reads as put-line-reads
-use Rattle.structure.proofs.lines.shown_lines.Reads as shown-lines-reads
 
 first-in-requires : tie.Need-first-in-requires
 first-in-requires c κs = search needs

@@ -2,15 +2,11 @@
 -- Rows of two bytes a number have fewer lines than four bytes count.
 use Prim.Native.Nat.{ℕ, _<_}
 use lib.ListN.{getD, length-map}
-use Rattle.structure.specs.Plan.{codeOf, planOf}
 use Rattle.structure.specs.Few.{lines-fit}
 use borrow.Author.Needs.{needs}
 use native.Mathlib.Omega.{arith}
 use Rattle.structure.proofs.plan.plan.Statement.{statement}
 use Rattle.structure.proofs.plan.plan.Tie as tie
-use Rattle.structure.proofs.plan.plan.Reads as reads
-use Rattle.structure.proofs.plan.plan.Lts as lts
-use Rattle.structure.proofs.plan.emit_range.Reads as emit-range-reads
 
 emit-range-requires : tie.Need-emit-range-requires
 emit-range-requires c κs =

@@ -4,9 +4,6 @@ use borrow.Author.Tests.{lt-ltb, le-ltb}
 use borrow.Author.Needs.{needs}
 use Rattle.structure.proofs.shape.is_loop.Statement.{statement}
 use Rattle.structure.proofs.shape.is_loop.Tie as tie
-use Rattle.structure.proofs.shape.is_loop.Reads as reads
-use Rattle.structure.proofs.shape.is_loop.Lts as lts
-use Rattle.structure.proofs.tests.single_entry.Reads as single-entry-reads
 
 add-t7 : tie.Need-add-t7
 add-t7 c = search needs

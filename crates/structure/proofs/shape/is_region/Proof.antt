@@ -1,13 +1,9 @@
 -- Whether a region stands from one place up to another: `is_region` meets its contract.
 -- By the entry rule, then the escape test.
-use mathlib.Core.Path.{sym, _∙_}
+use mathlib.Core.Path.{sym}
 use borrow.Author.Needs.{needs}
 use Rattle.structure.proofs.shape.is_region.Statement.{statement}
 use Rattle.structure.proofs.shape.is_region.Tie as tie
-use Rattle.structure.proofs.shape.is_region.Reads as reads
-use Rattle.structure.proofs.shape.is_region.Lts as lts
-use Rattle.structure.proofs.tests.region_escapes.Reads as region-escapes-reads
-use Rattle.structure.proofs.tests.single_entry.Reads as single-entry-reads
 
 single-entry-requires : tie.Need-single-entry-requires
 single-entry-requires c κs = search needs

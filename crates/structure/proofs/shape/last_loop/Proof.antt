@@ -1,8 +1,8 @@
 -- The last block that closes a loop: `last_loop` meets its contract.
 -- The invariant: the last one before j is the last one before the end.
 use mathlib.Core.Path.{_≡_, refl, sym, ap, _∙_}
-use mathlib.Core.Bool.{Bool, true, false}
-use Prim.Native.Nat.{ℕ, _+_, _-_, _≤_}
+use mathlib.Core.Bool.{Bool}
+use Prim.Native.Nat.{_-_, _≤_}
 use Rattle.lists.specs.Choice.{pick}
 use Rattle.structure.specs.Flow.{closesLoop}
 use Rattle.structure.specs.Shape.{lastFrom}
@@ -11,9 +11,6 @@ use Rattle.structure.proofs.Found.{last-turn, last-over}
 use borrow.Author.Needs.{needs}
 use Rattle.structure.proofs.shape.last_loop.Statement.{statement}
 use Rattle.structure.proofs.shape.last_loop.Tie as tie
-use Rattle.structure.proofs.shape.last_loop.Reads as reads
-use Rattle.structure.proofs.shape.last_loop.Lts as lts
-use Rattle.structure.proofs.tests.closes_loop.Reads as closes-loop-reads
 
 abbrev Inv-loop : tie.InvT-loop
 Inv-loop blocks edges i j₀ j = (j ≤ 65535) × (lastFrom (closesLoop blocks edges (i .0)) (i .0) (j - i .0) ≡ lastFrom (closesLoop blocks edges (i .0)) (i .0) (j₀ - i .0))

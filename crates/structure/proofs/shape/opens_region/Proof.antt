@@ -1,17 +1,11 @@
 -- Whether an if-region stands at a place: `opens_region` meets its contract.
 -- By the tests in order.
-use mathlib.Core.Path.{sym, _∙_}
+use mathlib.Core.Path.{sym}
 use borrow.Author.Tests.{eq-eqb, ne-eqb, lt-ltb, le-ltb, le-leb, lt-leb}
-use mathlib.Core.Bool.{and-assoc}
 use Rattle.structure.specs.Shape.{opensRegion}
 use borrow.Author.Needs.{needs}
 use Rattle.structure.proofs.shape.opens_region.Statement.{statement}
 use Rattle.structure.proofs.shape.opens_region.Tie as tie
-use Rattle.structure.proofs.shape.opens_region.Reads as reads
-use Rattle.structure.proofs.shape.opens_region.Lts as lts
-use Rattle.structure.proofs.flow.branch_to.Reads as branch-to-reads
-use Rattle.structure.proofs.flow.ending_in.Reads as ending-in-reads
-use Rattle.structure.proofs.shape.is_region.Reads as is-region-reads
 
 branch-to-requires : tie.Need-branch-to-requires
 branch-to-requires c κs = search needs

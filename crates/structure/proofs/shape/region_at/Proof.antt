@@ -1,14 +1,10 @@
 -- An if-region or a plain block: `region_at` meets its contract.
 -- By whether a region stands there.
-use mathlib.Core.Path.{sym, _∙_}
+use mathlib.Core.Path.{sym}
 use Rattle.structure.specs.Shape.{regionAt}
 use borrow.Author.Needs.{needs}
 use Rattle.structure.proofs.shape.region_at.Statement.{statement}
 use Rattle.structure.proofs.shape.region_at.Tie as tie
-use Rattle.structure.proofs.shape.region_at.Reads as reads
-use Rattle.structure.proofs.shape.region_at.Lts as lts
-use Rattle.structure.proofs.flow.branch_to.Reads as branch-to-reads
-use Rattle.structure.proofs.shape.opens_region.Reads as opens-region-reads
 
 opens-region-requires : tie.Need-opens-region-requires
 opens-region-requires c κs = search needs

@@ -9,11 +9,6 @@ use borrow.Author.Needs.{needs}
 use native.Mathlib.Omega.{arith}
 use Rattle.structure.proofs.shape.shape_at.Statement.{statement}
 use Rattle.structure.proofs.shape.shape_at.Tie as tie
-use Rattle.structure.proofs.shape.shape_at.Reads as reads
-use Rattle.structure.proofs.shape.shape_at.Lts as lts
-use Rattle.structure.proofs.shape.is_loop.Reads as is-loop-reads
-use Rattle.structure.proofs.shape.last_loop.Reads as last-loop-reads
-use Rattle.structure.proofs.shape.region_at.Reads as region-at-reads
 
 last-loop-requires : tie.Need-last-loop-requires
 last-loop-requires c κs = search needs

@@ -5,10 +5,6 @@ use Rattle.structure.specs.Flow.{closesLoop}
 use borrow.Author.Needs.{needs}
 use Rattle.structure.proofs.tests.closes_loop.Statement.{statement}
 use Rattle.structure.proofs.tests.closes_loop.Tie as tie
-use Rattle.structure.proofs.tests.closes_loop.Reads as reads
-use Rattle.structure.proofs.tests.closes_loop.Lts as lts
-use Rattle.structure.proofs.edges.has_true_edge.Reads as has-true-edge-reads
-use Rattle.structure.proofs.flow.has_condition.Reads as has-condition-reads
 
 has-true-edge-requires : tie.Need-has-true-edge-requires
 has-true-edge-requires c κs = search needs

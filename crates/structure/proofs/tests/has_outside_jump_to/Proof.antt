@@ -1,8 +1,8 @@
 -- Whether a block outside jumps to a place: `has_outside_jump_to` meets its contract.
 -- The invariant: no block so far does.
-use mathlib.Core.Path.{_≡_, sym, ap, _∙_}
-use mathlib.Core.Bool.{true, false, _&&_}
-use Prim.Native.Nat.{ℕ, _+_, _-_, _≤_}
+use mathlib.Core.Path.{_≡_, sym, _∙_}
+use mathlib.Core.Bool.{false, _&&_}
+use Prim.Native.Nat.{_-_, _≤_}
 use Rattle.lists.specs.Choice.{anyBelow}
 use Rattle.lists.specs.Below.{any-found, any-goes-on}
 use Rattle.structure.specs.Flow.{hasEdge, outside, jumpTo, outsideJump}
@@ -10,9 +10,6 @@ use borrow.Author.Needs.{needs}
 use native.Mathlib.Omega.{arith}
 use Rattle.structure.proofs.tests.has_outside_jump_to.Statement.{statement}
 use Rattle.structure.proofs.tests.has_outside_jump_to.Tie as tie
-use Rattle.structure.proofs.tests.has_outside_jump_to.Reads as reads
-use Rattle.structure.proofs.tests.has_outside_jump_to.Lts as lts
-use Rattle.structure.proofs.tests.jumps_from.Reads as jumps-from-reads
 
 abbrev Inv-loop : tie.InvT-loop
 Inv-loop blocks edges count from to i k₀ k = (k ≤ count) × (anyBelow (λ j. outside blocks edges (from .0) (to .0) j && hasEdge blocks edges (jumpTo blocks edges (i .0)) j) k ≡ false)

@@ -4,10 +4,6 @@ use mathlib.Core.Path.{sym}
 use borrow.Author.Needs.{needs}
 use Rattle.structure.proofs.tests.jumps_from.Statement.{statement}
 use Rattle.structure.proofs.tests.jumps_from.Tie as tie
-use Rattle.structure.proofs.tests.jumps_from.Reads as reads
-use Rattle.structure.proofs.tests.jumps_from.Lts as lts
-use Rattle.structure.proofs.edges.has_jump_to.Reads as has-jump-to-reads
-use Rattle.structure.proofs.flow.is_outside.Reads as is-outside-reads
 
 is-outside-requires : tie.Need-is-outside-requires
 is-outside-requires c κs = search needs

@@ -1,8 +1,8 @@
 -- Whether a region escapes: `region_escapes` meets its contract.
 -- The invariant: no block of it so far has an edge that leaves it backwards.
-use mathlib.Core.Path.{_≡_, sym, ap, _∙_}
-use mathlib.Core.Bool.{true, false}
-use Prim.Native.Nat.{ℕ, _+_, _-_, _≤_}
+use mathlib.Core.Path.{_≡_, sym, _∙_}
+use mathlib.Core.Bool.{false}
+use Prim.Native.Nat.{_+_, _-_, _≤_}
 use Rattle.lists.specs.Choice.{anyBelow}
 use Rattle.structure.specs.Flow.{hasEdge, leaves, escapes}
 use Rattle.structure.proofs.Found.{place-found, place-goes-on}
@@ -10,9 +10,6 @@ use borrow.Author.Needs.{needs}
 use native.Mathlib.Omega.{arith}
 use Rattle.structure.proofs.tests.region_escapes.Statement.{statement}
 use Rattle.structure.proofs.tests.region_escapes.Tie as tie
-use Rattle.structure.proofs.tests.region_escapes.Reads as reads
-use Rattle.structure.proofs.tests.region_escapes.Lts as lts
-use Rattle.structure.proofs.edges.has_leaving_edge.Reads as has-leaving-edge-reads
 
 abbrev Inv-loop : tie.InvT-loop
 Inv-loop blocks edges starts targets from to join k₀ k = (from .0 ≤ k) × (k - from .0 ≤ to .0 - from .0) × (anyBelow (λ m. hasEdge blocks edges (leaves blocks edges starts targets (from .0) (join .0)) (from .0 + m)) (k - from .0) ≡ false)

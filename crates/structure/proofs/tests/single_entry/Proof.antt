@@ -1,8 +1,8 @@
 -- Whether a part of the order is entered only at its first place: `single_entry` meets its contract.
 -- The invariant: no block so far enters it from outside.
 use mathlib.Core.Path.{_≡_, sym, ap, _∙_}
-use mathlib.Core.Bool.{true, false, not, _&&_}
-use Prim.Native.Nat.{ℕ, _+_, _-_, _≤_}
+use mathlib.Core.Bool.{false, not, _&&_}
+use Prim.Native.Nat.{_-_, _≤_}
 use Rattle.lists.specs.Choice.{anyBelow}
 use Rattle.lists.specs.Below.{any-found, any-goes-on}
 use Rattle.structure.specs.Flow.{hasEdge, outside, enters, singleEntry}
@@ -10,9 +10,6 @@ use borrow.Author.Needs.{needs}
 use native.Mathlib.Omega.{arith}
 use Rattle.structure.proofs.tests.single_entry.Statement.{statement}
 use Rattle.structure.proofs.tests.single_entry.Tie as tie
-use Rattle.structure.proofs.tests.single_entry.Reads as reads
-use Rattle.structure.proofs.tests.single_entry.Lts as lts
-use Rattle.structure.proofs.tests.enters_from.Reads as enters-from-reads
 
 abbrev Inv-loop : tie.InvT-loop
 Inv-loop blocks edges count from to k₀ k = (k ≤ count) × (anyBelow (λ j. outside blocks edges (from .0) (to .0) j && hasEdge blocks edges (enters blocks edges (from .0) (to .0)) j) k ≡ false)
