@@ -1,21 +1,19 @@
 -- How long an operand can be: at most 14 tokens and 487 bytes, where the record is one of bytes.
 -- Each token has a bound of its own, and bounds add up (`Within`); the longest token is a string's literal.
-use mathlib.Core.Path.{_≡_, refl, sym, ap, _∙_}
+use mathlib.Core.Path.{_≡_}
 use mathlib.Core.Bool.{Bool, true, false, _&&_, _||_}
 use mathlib.Core.List.{List, [], _∷_, _++_, append-nil}
 use Prim.Native.Nat.{ℕ, zero, suc, _+_, _*_, _/_, _%_, _^_, _≤_, _<_}
-use native.Mathlib.Nat.{mod-lt}
 use native.Mathlib.Decide.{decLt}
 use native.Mathlib.Omega.{arith}
 use borrow.Author.Tests.{lt-ltb, le-ltb}
 use lib.Dec.{T, leb, leb→le, eqb, ltb}
 use lib.IntN.{ℤ, pos, negsuc, subℕ, _+ℤ_, natAbs}
-use lib.ListN.{length, getD, take, drop, length-append, length-take}
+use lib.ListN.{length, getD, drop, length-append, length-take}
 use lib.Seq.{getD-drop}
 use Rattle.lists.specs.Choice.{pick}
-use Rattle.lists.specs.Bytes.{u8At, u16At, u32At, u64At}
+use Rattle.lists.specs.Bytes.{u16At, u32At, u64At}
 use Rattle.lists.specs.Signed.{i32Of, i64Of}
-use Rattle.text.specs.Number.{numText}
 use Rattle.text.specs.NumberLaws.{num-64}
 use Rattle.text.specs.LiteralBounds.{literal-short}
 use Rattle.tokens.specs.Token.{Token, token, punct}
