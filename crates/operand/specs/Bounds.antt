@@ -264,14 +264,15 @@ module _ (h : Header) (s b : List ℕ) (ss : AllBytes s) (bs : AllBytes b) where
         (either (Within 14 487) (leb (operandKind b i) 10) _ _ (more 14 487 (immediate-within _ _ v) (omega arith) (omega arith))
         (more 14 487 (one _ 1 (omega arith)) (omega arith) (omega arith)))))
 
-    pub mem-short : (deref : Bool) → length (textOf (memTokens h s deref b)) ≤ 640
-    mem-short deref = omega (arith, mem-within deref .short)
+module _ (h : Header) (s b : List ℕ) where
+  pub mem-short : (deref : Bool) → AllBytes s → AllBytes b → natAbs (h .shift) ≤ 2 ^ 31 → length (textOf (memTokens h s deref b)) ≤ 640
+  mem-short deref ss bs shift = omega (arith, mem-within h s b ss bs shift deref .short)
 
-    pub mem-few : (deref : Bool) → length (memTokens h s deref b) ≤ 16
-    mem-few deref = omega (arith, mem-within deref .few)
+  pub mem-few : (deref : Bool) → AllBytes s → AllBytes b → natAbs (h .shift) ≤ 2 ^ 31 → length (memTokens h s deref b) ≤ 16
+  mem-few deref ss bs shift = omega (arith, mem-within h s b ss bs shift deref .few)
 
-    pub op-short : (i : ℕ) → length (textOf (opTokens h s b i)) ≤ 640
-    op-short i = omega (arith, op-within i .short)
+  pub op-short : (i : ℕ) → AllBytes s → AllBytes b → natAbs (h .shift) ≤ 2 ^ 31 → length (textOf (opTokens h s b i)) ≤ 640
+  op-short i ss bs shift = omega (arith, op-within h s b ss bs shift i .short)
 
-    pub op-few : (i : ℕ) → length (opTokens h s b i) ≤ 16
-    op-few i = omega (arith, op-within i .few)
+  pub op-few : (i : ℕ) → AllBytes s → AllBytes b → natAbs (h .shift) ≤ 2 ^ 31 → length (opTokens h s b i) ≤ 16
+  op-few i ss bs shift = omega (arith, op-within h s b ss bs shift i .few)
