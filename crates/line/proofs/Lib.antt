@@ -1,3 +1,4 @@
 pub mod Search
 pub mod Written
 pub mod RowTable
+pub mod Relations
