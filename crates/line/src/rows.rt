@@ -5,7 +5,9 @@ use lists::reads::u8_at;
 ghost use mathlib.Core.Path.{_≡_};
 ghost use Rattle.line.specs.Codes.{rowBytes, codesOf};
 
-const ROWS: [u8; 768] = *b"\
+pub type Table = [u8; 768];
+
+const ROWS: Table = *b"\
     \x04\x80\0\x81\x01\0\0\0\0\0\0\0\0\0\0\0\
     \x05\x80\0\x3a\x81\x01\0\0\0\0\0\0\0\0\0\0\
     \x05\x80\0\x3b\x81\x01\0\0\0\0\0\0\0\0\0\0\
@@ -57,7 +59,7 @@ const ROWS: [u8; 768] = *b"\
 ";
 
 // The table, to be lent.
-pub fn row_table() -> [u8; 768]
+pub fn row_table() -> Table
     ensures { λ r. ⌜ r ≡ rowBytes ⌝ }
 {
     ROWS

@@ -11,7 +11,9 @@ use lists::reads::within;
 
 // 160 registers of 8 bytes (length, name, full register, size), 46 mnemonics of 16 (length, name, flag effect) and
 // 17 conditions of 8 (relation after cmp, after test, after the other writers, unsigned, negated).
-const ISA: [u8; 2152] = *b"\
+pub type Table = [u8; 2152];
+
+const ISA: Table = *b"\
     \x04none\0\0\0\0\0\0\0\0\0\x01\0\0\0\0\0\0\0\x02\0\0\0\0\0\0\0\x03\0\
     \0\0\0\0\0\0\x04\0\0\0\0\0\0\0\x05\0\0\0\0\0\0\0\x06\0\0\0\0\0\0\0\x07\0\
     \0\0\0\0\0\0\x08\0\0\0\0\0\0\0\x09\0\0\0\0\0\0\0\x0a\0\0\0\0\0\0\0\x0b\0\
@@ -82,7 +84,7 @@ const ISA: [u8; 2152] = *b"\
     \x05\x05\x06\0\x0f\0\0\0";
 
 // The table itself.
-pub fn isa() -> [u8; 2152]
+pub fn isa() -> Table
     ensures { λ t. ⌜ t ≡ isaBytes ⌝ }
 {
     ISA
