@@ -4,3 +4,4 @@ pub mod Integers
 pub mod Pushes
 pub mod Choices
 pub mod Exports
+pub mod Printing

@@ -3,6 +3,7 @@ pub mod Names
 pub mod Memory
 pub mod Operand
 pub mod Alike
+pub mod Bounds
 pub mod Lent
 pub mod Sized
 pub mod Accepted

@@ -1,9 +1,9 @@
--- `joins::print_words` meets its contract.
+-- `print_words` meets its contract.
 -- The words are counted up.
 use borrow.Author.Needs.{needs}
 use Prim.Native.Nat.{_≤_, _-_}
-use Rattle.samples.proofs.joins.print_words.Statement.{statement}
-use Rattle.samples.proofs.joins.print_words.Tie as tie
+use Rattle.samples.proofs.print_words.Statement.{statement}
+use Rattle.samples.proofs.print_words.Tie as tie
 
 abbrev Inv-loop : tie.InvT-loop
 Inv-loop words w₀ w = w ≤ 102

@@ -1,11 +1,11 @@
--- `joins::push_line` meets its contract.
+-- `push_line` meets its contract.
 -- The lists keep their lengths.
 use borrow.Author.Needs.{needs}
 use mathlib.Core.Path.{_≡_}
 use Prim.Native.Nat.{_≤_, _-_}
 use lib.ListN.{length}
-use Rattle.samples.proofs.joins.push_line.Statement.{statement}
-use Rattle.samples.proofs.joins.push_line.Tie as tie
+use Rattle.samples.proofs.push_line.Statement.{statement}
+use Rattle.samples.proofs.push_line.Tie as tie
 
 abbrev Inv-loop : tie.InvT-loop
 Inv-loop text₀ ends₀ kinds₀ words line p₀ i₀ text ends kinds p i = (i ≤ length line) × (length text ≡ length text₀) × (length ends ≡ length ends₀) × (length kinds ≡ length kinds₀)

@@ -1,10 +1,10 @@
--- `joins::show_tokens` meets its contract.
+-- `show_tokens` meets its contract.
 -- The tokens are counted up.
 use borrow.Author.Needs.{needs}
 use Prim.Native.Nat.{_≤_, _-_}
 use lib.ListN.{length}
-use Rattle.samples.proofs.joins.show_tokens.Statement.{statement}
-use Rattle.samples.proofs.joins.show_tokens.Tie as tie
+use Rattle.samples.proofs.show_tokens.Statement.{statement}
+use Rattle.samples.proofs.show_tokens.Tie as tie
 
 abbrev Inv-loop : tie.InvT-loop
 Inv-loop text ends kinds i₀ at₀ i at = i ≤ length ends

@@ -1,0 +1,86 @@
+-- Texts that are the same bytes, read one by one, and what an operand printed by itself leaves.
+-- Both texts are told from a byte on; a printed text fits, so it stands at the list's front.
+use mathlib.Core.Path.{_≡_, refl, sym, ap, _∙_}
+use mathlib.Core.Bool.{Bool, true, false, _&&_, and-false}
+use mathlib.Core.List.{List, [], _∷_}
+use Prim.Native.Nat.{ℕ, suc, _+_, _-_, _≤_, _<_}
+use native.Mathlib.Numerals.{add-one}
+use native.Mathlib.Nat.{zero-add}
+use native.Mathlib.Omega.{arith}
+use borrow.Author.Tests.{eq-eqb, ne-eqb}
+use lib.Dec.{eqb}
+use lib.ListN.{length, getD, take, drop}
+use lib.Seq.{drop-cons, take-at}
+use Rattle.lists.specs.Put.{put}
+use Rattle.lists.specs.PutLaws.{put-fits}
+use Rattle.tokens.specs.Token.{Token}
+use Rattle.tokens.specs.Sheet.{Sheet, sheet, pushes, firstPen}
+use Rattle.tokens.specs.Listing.{flat, join}
+use Rattle.tokens.specs.ListingLaws.{line-wrote, join-flat}
+use Rattle.tokens.specs.declared.pen.Pen.{Pen}
+use Rattle.operand.specs.Alike.{textOf, sameBytes, Printed}
+
+-- the first n bytes of two lists from byte i on
+abbrev pub SameFrom : List ℕ → List ℕ → ℕ → ℕ → Type 0
+SameFrom a b n i = sameBytes (take n a) (take n b) ≡ sameBytes (take (n - i) (drop i a)) (take (n - i) (drop i b))
+
+pub from-start : (a b : List ℕ) (n : ℕ) → SameFrom a b n 0
+from-start a b n = let k : n - 0 ≡ n = omega arith in rw k
+
+module _ (a b : List ℕ) (n i : ℕ) (p : n ≤ length a) (q : n ≤ length b) (s : SameFrom a b n i) where
+  next-byte : i < n → sameBytes (take n a) (take n b) ≡ (eqb (getD a i 0) (getD b i 0) && sameBytes (take (n - (i + 1)) (drop (i + 1) a)) (take (n - (i + 1)) (drop (i + 1) b)))
+  unfolding sameBytes
+  next-byte h =
+      let k : n - i ≡ suc (n - (i + 1)) = omega arith in
+      s ∙ rw (k, drop-cons a i 0 (omega arith), drop-cons b i 0 (omega arith), ← add-one i)
+
+  pub byte-same : i < n → getD a i 0 ≡ getD b i 0 → SameFrom a b n (i + 1)
+  byte-same h e = next-byte h ∙ rw (eq-eqb (getD a i 0) (getD b i 0) e)
+
+  pub byte-other : i < n → (getD a i 0 ≡ getD b i 0 → ⊥) → false ≡ sameBytes (take n a) (take n b)
+  byte-other h e = sym (next-byte h ∙ rw (ne-eqb (getD a i 0) (getD b i 0) e))
+
+  pub all-same : n ≤ i → true ≡ sameBytes (take n a) (take n b)
+  unfolding sameBytes
+  all-same h = let k : n - i ≡ 0 = omega arith in sym (s ∙ rw k)
+
+other-lengths : (s t : List ℕ) → (length s ≡ length t → ⊥) → sameBytes s t ≡ false
+unfolding sameBytes
+other-lengths [] [] h = absurd (h refl)
+other-lengths [] (y ∷ t) h = refl
+other-lengths (x ∷ s) [] h = refl
+other-lengths (x ∷ s) (y ∷ t) h = rw (other-lengths s t (λ e. h (ap suc e)), and-false)
+
+-- two texts printed, each into a list of its own
+pub lengths-differ : {s t d e d′ e′ : List ℕ} {n m : ℕ} → Printed s d d′ n → Printed t e e′ m → (n ≡ m → ⊥) → false ≡ sameBytes s t
+lengths-differ {s} {t} p q h = sym (other-lengths s t (λ x. h (p .count ∙ x ∙ sym (q .count))))
+
+printed-front : (t e e′ : List ℕ) (n : ℕ) → 640 ≤ length e → Printed t e e′ n → take n e′ ≡ t
+printed-front t e e′ n h p =
+    let f : length t ≤ length e = omega (arith, p .count, p .short) in
+    rw (p .text, put-fits 0 t e (omega arith)) (take-at t _ n (sym (p .count)))
+
+pub fronts-same : {s t d e d′ e′ : List ℕ} {n m : ℕ} {r : Bool} → Printed s d d′ n → Printed t e e′ m → 640 ≤ length d → 640 ≤ length e → n ≡ m
+    → r ≡ sameBytes (take n d′) (take n e′) → r ≡ sameBytes s t
+fronts-same {s} {t} {d} {e} {d′} {e′} {n} {m} p q hd he h x = x ∙ rw (printed-front s d d′ n hd p, h, printed-front t e e′ m he q)
+
+-- `textOf` is `flat`
+text-flat : (ts : List Token) → flat ts ≡ textOf ts
+unfolding flat textOf
+text-flat [] = refl
+text-flat (t ∷ ts) = rw (text-flat ts)
+
+-- tokens pushed by the first pen
+pub printed : (ts : List Token) (e e′ x x′ k k′ : List ℕ) (f r : Pen) → length (textOf ts) ≤ 640 → length ts ≤ 16 → f ≡ firstPen
+    → sheet e′ x′ k′ r ≡ pushes (sheet e x k f) ts → Printed (textOf ts) e e′ (r .text)
+printed ts e e′ x x′ k k′ f r short few first pushed =
+    let q = rw first at pushed in
+    let j : flat (join ts) ≡ textOf ts = join-flat ts ∙ text-flat ts in
+    let l : length (flat ts) ≡ length (textOf ts) = ap length (text-flat ts) in
+    let w = line-wrote (sheet e x k firstPen) ts (omega arith) (omega arith) in
+    let n : r .text ≡ length (textOf ts) = ap (λ (s : Sheet). s .marks .pen .text) q ∙ w .end ∙ zero-add _ ∙ ap length j in
+    record {
+      text = ap (λ (s : Sheet). s .text) q ∙ w .text ∙ ap (λ (t : List ℕ). put 0 t e) j;
+      count = n;
+      short = omega arith;
+    }
