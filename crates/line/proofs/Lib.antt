@@ -5,3 +5,4 @@ pub mod Relations
 pub mod Commas
 pub mod Names
 pub mod Pieces
+pub mod Turns
