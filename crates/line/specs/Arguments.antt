@@ -9,7 +9,8 @@ use Rattle.tokens.specs.Token.{Token, token, punct}
 use Rattle.x86.specs.Registers.{fullRegister, registerName}
 use Rattle.x86.specs.Conventions.{argumentRegisters, argumentCount, withWritten}
 use Rattle.record.specs.declared.header.Header.{Header}
-use Rattle.record.specs.Body.{mnemonicOf, operandCount, operandKind, operandRegister}
+use Rattle.record.specs.Layout.{bodiesOf}
+use Rattle.record.specs.Body.{bodyAt, mnemonicOf, operandCount, operandKind, operandRegister}
 use Rattle.operand.specs.Memory.{registerToken}
 use Rattle.operand.specs.Operand.{opTokens}
 use Rattle.flow.specs.Silent.{isSkipped, push, call}
@@ -29,17 +30,18 @@ listed comma (r ∷ rs) = commaIf comma (registerToken r ∷ listed true rs)
 unfoldable pub registerArguments : ℕ → ℕ → List Token
 registerArguments convention mask = listed false (take (argumentCount convention mask) (argumentRegisters convention))
 
+-- instruction i has mnemonic m and is not skipped; the part given begins at the bodies
+unfoldable pub isHeard : ℕ → List ℕ → ℕ → ℕ → Bool
+isHeard frame bodies m i = eqb (mnemonicOf (bodyAt bodies i)) m && not (isSkipped frame (bodyAt bodies i))
+
+-- with bits 32: of the n instructions from `first` on the pushes since the last call that is not silent, the last one first
+unfoldable pub pushesBack : ℕ → List ℕ → ℕ → ℕ → List ℕ
+pushesBack frame bodies first zero = []
+pushesBack frame bodies first (suc n) =
+    pick (isHeard frame bodies call (first + n)) []
+    (pick (isHeard frame bodies push (first + n)) ((first + n) ∷ pushesBack frame bodies first n) (pushesBack frame bodies first n))
+
 module _ (h : Header) (s : List ℕ) where
-  abbrev pub isHeard : ℕ → ℕ → Bool
-  isHeard m i = eqb (mnemonicOf (bodyOf h s i)) m && not (isSkipped (h .frame) (bodyOf h s i))
-
-  -- with bits 32: of the n instructions from `first` on the pushes since the last call that is not silent, the last one first
-  unfoldable pub pushesBack : ℕ → ℕ → List ℕ
-  pushesBack first zero = []
-  pushesBack first (suc n) =
-      pick (isHeard call (first + n)) []
-      (pick (isHeard push (first + n)) ((first + n) ∷ pushesBack first n) (pushesBack first n))
-
   unfoldable pub pushed : Bool → List ℕ → List Token
   pushed comma [] = []
   pushed comma (i ∷ is) = commaIf comma (opTokens h s (bodyOf h s i) 0 ++ pushed true is)
@@ -47,7 +49,7 @@ module _ (h : Header) (s : List ℕ) where
   -- the arguments at instruction i of a range whose first instruction is `first`
   unfoldable pub argumentTokens : ℕ → ℕ → ℕ → List Token
   argumentTokens first i mask =
-      pick (eqb (h .bits) 32) (pushed false (pushesBack first (i - first))) (registerArguments (h .convention) mask)
+      pick (eqb (h .bits) 32) (pushed false (pushesBack (h .frame) (bodiesOf h s) first (i - first))) (registerArguments (h .convention) mask)
 
 -- the registers written once an instruction's line is there: a call clears them, any other adds its first operand's full register
 unfoldable pub writtenAfter : ℕ → List ℕ → ℕ

@@ -3,3 +3,4 @@ pub mod Arguments
 pub mod Forms
 pub mod Codes
 pub mod Print
+pub mod Lines

@@ -2,7 +2,8 @@
 use Prim.Native.Nat.{ℕ, zero, suc, _+_, _-_}
 use mathlib.Core.Bool.{Bool, true, false}
 use mathlib.Core.List.{List, [], _∷_, _++_, map}
-use lib.Dec.{eqb, ltb}
+use lib.Dec.{eqb}
+use lib.ListN.{take}
 use Rattle.lists.specs.Choice.{pick}
 use Rattle.lists.specs.Bytes.{u8At}
 use Rattle.tokens.specs.Token.{Token, token, punct, plainText, register}
@@ -21,27 +22,28 @@ use Rattle.structure.specs.Plan.{What, Line}
 use Rattle.structure.specs.Plan.What.{label-line, do-line, open-line, if-goto, while-line, close-line, goto-line, tail-call, insn-line}
 use Rattle.structure.specs.Flow.{firstIn}
 use Rattle.flow.specs.Rows.{blockRows}
+use Rattle.line.specs.declared.print.Site.{Site}
 use Rattle.line.specs.Condition.{bodyOf, conditionTokens}
 use Rattle.line.specs.Arguments.{argumentTokens, writtenAfter, commaIf}
 use Rattle.line.specs.Forms.{Piece, formOf, rowOf}
 use Rattle.line.specs.Forms.Piece.{fixed, op, address, nought, ones, condition, negated, arguments, target, start, accumulator, assembly}
 
--- a name's bytes up to its zeros
-unfoldable pub nameFrom : List ℕ → ℕ → ℕ → List ℕ
-nameFrom n k zero = []
-nameFrom n k (suc m) = pick (eqb (u8At n k) 0) [] (u8At n k ∷ nameFrom n (suc k) m)
+-- how many of the m bytes from k on stand before a zero, k of them counted already
+unfoldable pub lengthFrom : List ℕ → ℕ → ℕ → ℕ
+lengthFrom n k zero = k
+lengthFrom n k (suc m) = pick (eqb (u8At n k) 0) k (lengthFrom n (suc k) m)
+
+-- how many bytes a name has before its zeros
+unfoldable pub nameLength : List ℕ → ℕ
+nameLength n = lengthFrom n 0 24
 
 -- an instruction's name: that of its mnemonic, or for mnemonic 0 the record's
 unfoldable pub insnName : List ℕ → List ℕ
-insnName b = pick (eqb (mnemonicOf b) 0) (nameFrom (nameOf b) 0 24) (mnemonicName (mnemonicOf b))
+insnName b = pick (eqb (mnemonicOf b) 0) (take (nameLength (nameOf b)) (nameOf b)) (mnemonicName (mnemonicOf b))
 
--- what a line is printed with: its instruction, the first instruction of its block and of its range, its place, the registers written
-pub record Site : Type 0 where
-  pub at : ℕ
-  pub first : ℕ
-  pub range : ℕ
-  pub place : ℕ
-  pub written : ℕ
+-- rax or eax
+abbrev pub accumulatorToken : ℕ → Token
+accumulatorToken bits = pick (eqb bits 64) (register "rax") (register "eax")
 
 module _ (h : Header) (s : List ℕ) where
   -- `__asm`: the operands with commas between
@@ -64,7 +66,7 @@ module _ (h : Header) (s : List ℕ) where
   pieceTokens c arguments = argumentTokens h s (c .range) (c .at) (c .written)
   pieceTokens c (target w) = nameOr h s (operandNumber (bodyOf h s (c .at)) 0) w ∷ []
   pieceTokens c start = prefixed 94 (startAt (startsOf h s) (c .place)) ∷ []
-  pieceTokens c accumulator = pick (eqb (h .bits) 64) (register "rax") (register "eax") ∷ []
+  pieceTokens c accumulator = accumulatorToken (h .bits) ∷ []
   pieceTokens c assembly = assemblyTokens (bodyOf h s (c .at))
 
   unfoldable pub piecesTokens : Site → List Piece → List Token

@@ -1,5 +1,8 @@
-// Lines: conditions, arguments, and the forms of lines.
+// Lines: conditions, arguments, the forms of lines, and the lines of a plan.
 pub mod arguments;
+pub mod assembly;
 pub mod condition;
 pub mod forms;
+pub mod lines;
+pub mod print;
 pub mod rows;

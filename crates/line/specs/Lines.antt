@@ -1,0 +1,38 @@
+-- A planned line as its code tells it.
+use mathlib.Core.Path.{_≡_, refl, ap, _∙_}
+use mathlib.Core.List.{List, [], _∷_}
+use Prim.Native.Nat.{ℕ, _<_}
+use lib.ListN.{getD}
+use Rattle.structure.specs.Plan.{What, Line, line, whatNumber, codeOf}
+use Rattle.structure.specs.Plan.What.{label-line, do-line, open-line, if-goto, while-line, close-line, goto-line, tail-call, insn-line}
+use Rattle.structure.specs.Reads.{whatIn, instructionIn, placeIn, indentIn, Told, told}
+
+-- what a line is, by its number: 8, and any further one, an instruction
+abbrev pub whats : List What
+whats = label-line ∷ do-line ∷ open-line ∷ if-goto ∷ while-line ∷ close-line ∷ goto-line ∷ tail-call ∷ []
+
+unfoldable pub whatAt : ℕ → What
+whatAt n = getD whats n insn-line
+
+unfoldable pub lineIn : ℕ → Line
+lineIn code = line (whatAt (whatIn code)) (placeIn code) (instructionIn code) (indentIn code)
+
+what-again : (w : What) → whatAt (whatNumber w) ≡ w
+unfolding whatAt
+what-again label-line = refl
+what-again do-line = refl
+what-again open-line = refl
+what-again if-goto = refl
+what-again while-line = refl
+what-again close-line = refl
+what-again goto-line = refl
+what-again tail-call = refl
+what-again insn-line = refl
+
+-- a code gives back its line
+pub line-again : (l : Line) → l .at < 65536 → l .place < 65536 → lineIn (codeOf l) ≡ l
+unfolding lineIn
+line-again l p q =
+    let t : Told l = told l p q in
+    let w : whatAt (whatIn (codeOf l)) ≡ l .what = ap whatAt (t .what-told) ∙ what-again (l .what) in
+    rw (w, t .place-told, t .instruction-told, t .indent-told)
