@@ -1,6 +1,7 @@
 pub mod Flow
 pub mod Shape
 pub mod Plan
+pub mod Placed
 pub mod Demand
 pub mod Within
 pub mod Ranges
