@@ -5,10 +5,12 @@ pub mod Placed
 pub mod Demand
 pub mod Within
 pub mod Ranges
+pub mod Leaves
 pub mod Heard
 pub mod Addresses
 pub mod Braces
 pub mod Few
+pub mod PlacedLaw
 pub mod Props
 pub mod Stored
 pub mod Codes
