@@ -28,7 +28,7 @@ pub record BlockHas (h : Header) (s : List ℕ) (k first n : ℕ) : Type 0 where
 abbrev pub rowEnding : Header → List ℕ → ℕ → List ℕ
 rowEnding h s k = labelMark (marksOf h s) k ∷ blockEnding h s k ∷ blockBranch h s k ∷ 0 ∷ []
 
-sum-grows : (f : ℕ → ℕ) (k n : ℕ) → k ≤ n → sumBelow f k ≤ sumBelow f n
+pub sum-grows : (f : ℕ → ℕ) (k n : ℕ) → k ≤ n → sumBelow f k ≤ sumBelow f n
 sum-grows f k zero h = let e : k ≡ 0 = omega arith in rw e (omega arith)
 sum-grows f k (suc n) h =
     elim (decLe k n) [
@@ -71,14 +71,16 @@ marks-counted h s ok =
     let q = both _ _ (p .0) in
     record { instructions = eqb-true _ _ (q .0); edges = eqb-true _ _ (q .1) }
 
--- question 3's limits on what the rows are made of
+-- question 3's limits on what the rows are made of, and on the indent
 pub record Small (h : Header) : Type 0 where
   pub blocks : h .blocks ≤ 200
   pub instructions : h .instructions ≤ 500
   pub edges : h .edges ≤ 600
+  pub indent : h .indent ≤ 55
 
 pub limits-small : (h : Header) → limitsOk h ≡ true → Small h
 limits-small h ok =
-    let d = both (leb (h .blocks) 200 && leb (h .instructions) 500) (leb (h .edges) 600) (both _ _ (both _ _ (both _ _ (both _ _ ok .0) .0) .0) .0) in
+    let c = both _ _ ok in
+    let d = both (leb (h .blocks) 200 && leb (h .instructions) 500) (leb (h .edges) 600) (both _ _ (both _ _ (both _ _ (c .0) .0) .0) .0) in
     let e = both (leb (h .blocks) 200) (leb (h .instructions) 500) (d .0) in
-    record { blocks = leb-true _ _ (e .0); instructions = leb-true _ _ (e .1); edges = leb-true _ _ (d .1) }
+    record { blocks = leb-true _ _ (e .0); instructions = leb-true _ _ (e .1); edges = leb-true _ _ (d .1); indent = leb-true _ _ (c .1) }

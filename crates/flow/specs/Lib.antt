@@ -4,3 +4,4 @@ pub mod Counted
 pub mod Laws
 pub mod Terms
 pub mod Planned
+pub mod Bounds

@@ -1,5 +1,4 @@
 // The plan of a range of a record's blocks.
-use crate::rows::block_rows;
 use crate::rows::edge_rows;
 use crate::rows::shown_rows;
 use lists::parts::part;
@@ -14,27 +13,32 @@ ghost use mathlib.Core.Bool.{true};
 ghost use Rattle.record.specs.Header.{limitsOk};
 ghost use Rattle.structure.specs.Stored.{Stored};
 ghost use Rattle.x86.specs.Table.{isaBytes};
-ghost use Rattle.flow.specs.Counted.{Counted};
+ghost use Rattle.flow.specs.Rows.{blockRows};
 ghost use Rattle.flow.specs.Planned.{recordCodes};
 
-// The lines' codes from the start of the list on; answers how many there are, stored or not.
-pub fn plan_record(isa: &[u8], rec: &[u8], h: Header, from: u16, to: u16, out: &mut [u64]) -> usize
+// The lines' codes from the start of the list on; answers how many there are, stored or not. The blocks' rows are lent.
+pub fn plan_record(
+    isa: &[u8],
+    rec: &[u8],
+    h: Header,
+    blocks: &[u16],
+    from: u16,
+    to: u16,
+    out: &mut [u64],
+) -> usize
     requires isa { ⌜ now isa ≡ isaBytes ⌝ }
     requires limits { ⌜ limitsOk h ≡ true ⌝ }
-    requires counted { ⌜ Counted h (now rec) ⌝ }
+    requires rows { ⌜ now blocks ≡ blockRows h (now rec) ⌝ }
     ensures { λ r. ⌜ Stored (now (out .entry)) 0 (recordCodes h (now (rec .entry)) from to) r (now (out .exit)) ⌝ }
 {
-    let mut blocks = [0u16; 1600];
     let mut edges = [0u16; 1200];
     let mut shown = [0u8; 500];
-    block_rows(rec, h, &mut blocks);
     edge_rows(rec, h, &mut edges);
     shown_rows(isa, rec, h, &mut shown);
-    let b = part_u16(&blocks, 8 * size(h.blocks));
     let e = part_u16(&edges, 2 * size(h.edges));
     let s = part(&shown, 0, size(h.instructions));
     plan(
-        b,
+        blocks,
         e,
         s,
         part_from(rec, 24),

@@ -42,9 +42,9 @@ shallow-join : (m : ℕ) (xs ys : List Line) → Shallow m xs → Shallow m ys �
 shallow-join m [] ys p q = q
 shallow-join m (x ∷ xs) ys p q = (p .0, shallow-join m xs ys (p .1) q)
 
-wider : (m n : ℕ) (xs : List Line) → m ≤ n → Shallow m xs → Shallow n xs
-wider m n [] h p = p
-wider m n (x ∷ xs) h p = (omega arith, wider m n xs h (p .1))
+pub shallow-wider : (m n : ℕ) (xs : List Line) → m ≤ n → Shallow m xs → Shallow n xs
+shallow-wider m n [] h p = p
+shallow-wider m n (x ∷ xs) h p = (omega arith, shallow-wider m n xs h (p .1))
 
 module _ (blocks edges shown starts targets : List ℕ) (B : ℕ) where
   abbrev body : ℕ → ℕ → List Line
@@ -129,7 +129,7 @@ module _ (blocks edges shown starts targets : List ℕ) (B : ℕ) where
       → Shallow (d + (to - i)) (step blocks edges shown starts targets B g true s from i to d)
   low-more g h (Loop j) from i to d w q =
       shallow-join (d + (to - i)) (loopLines blocks edges shown B i j d) (g from (j + 1) to d) (loop-low (d + (to - i)) i j d (omega arith))
-      (wider (d + (to - (j + 1))) (d + (to - i)) (g from (j + 1) to d) (omega arith) (q from (j + 1) to d (omega arith) (omega arith)))
+      (shallow-wider (d + (to - (j + 1))) (d + (to - i)) (g from (j + 1) to d) (omega arith) (q from (j + 1) to d (omega arith) (omega arith)))
   low-more g h (Region t) from i to d w q =
       let m = d + (to - i) in
       let p : d < d + (to - i) = omega arith in
@@ -138,13 +138,13 @@ module _ (blocks edges shown starts targets : List ℕ) (B : ℕ) where
       (shallow-join m (body i d) (braced i d (g (i + 1) (i + 1) t (d + 1))) (body-all blocks edges shown B Any (Shallow m) tt (shallow-join m) d (low m d p) i tt) (
         p,
         shallow-join m (g (i + 1) (i + 1) t (d + 1)) _
-            (wider (d + 1 + (t - (i + 1))) m (g (i + 1) (i + 1) t (d + 1)) (omega arith) (q (i + 1) (i + 1) t (d + 1) (omega arith) (omega arith))) (p, tt),
+            (shallow-wider (d + 1 + (t - (i + 1))) m (g (i + 1) (i + 1) t (d + 1)) (omega arith) (q (i + 1) (i + 1) t (d + 1) (omega arith) (omega arith))) (p, tt),
       )))
-      (wider (d + (to - t)) m (g from t to d) (omega arith) (q from t to d (omega arith) (omega arith)))
+      (shallow-wider (d + (to - t)) m (g from t to d) (omega arith) (q from t to d (omega arith) (omega arith)))
   low-more g h Plain from i to d w q =
       shallow-join (d + (to - i)) (plainLines blocks edges shown B from i to d) (g from (i + 1) to d)
       (plain-all blocks edges shown B Any (Shallow (d + (to - i))) tt (shallow-join (d + (to - i))) d (low (d + (to - i)) d (omega arith)) from i to tt)
-      (wider (d + (to - (i + 1))) (d + (to - i)) (g from (i + 1) to d) (omega arith) (q from (i + 1) to d (omega arith) (omega arith)))
+      (shallow-wider (d + (to - (i + 1))) (d + (to - i)) (g from (i + 1) to d) (omega arith) (q from (i + 1) to d (omega arith) (omega arith)))
 
   pub lines-shallow : (from to d : ℕ) → Shallow (d + (to - from)) (planOf blocks edges shown starts targets B from to d)
   lines-shallow from to d = range-all blocks edges shown starts targets B Low (λ f i t e h. tt) low-more from from to d

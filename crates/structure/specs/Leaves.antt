@@ -28,7 +28,7 @@ Leaf close-line = ⊥
 abbrev pub endIn : List ℕ → ℕ → ℕ
 endIn blocks k = firstIn blocks k + countIn blocks k
 
-pub body-within : (blocks : List ℕ) (k : ℕ) → bodyCount blocks k ≤ countIn blocks k
+body-within : (blocks : List ℕ) (k : ℕ) → bodyCount blocks k ≤ countIn blocks k
 unfolding bodyCount
 body-within blocks k =
     pick-both (λ (n : ℕ). n ≤ countIn blocks k) (eqb (endingIn blocks k) 2 || eqb (endingIn blocks k) 3) _ _ (λ _. omega arith) (λ _. le-refl (countIn blocks k))
@@ -41,7 +41,7 @@ module _ (blocks edges shown : List ℕ) (B : ℕ) (Known : ℕ → Type 0) (P :
   pub labels-all : (b : Bool) (k : ℕ) → Known k → P (labelIf b k d)
   labels-all b k s = pick-both P b _ _ (λ _. one label-line k 0 (d - 1) tt s zero-le (omega arith)) (λ _. none)
 
-  pub lines-all : (k i n : ℕ) → Known k → i + n ≤ endIn blocks k → P (shownLines shown k i n d)
+  lines-all : (k i n : ℕ) → Known k → i + n ≤ endIn blocks k → P (shownLines shown k i n d)
   unfolding shownLines
   lines-all k i zero s h = none
   lines-all k i (suc n) s h =

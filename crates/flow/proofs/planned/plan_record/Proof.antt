@@ -7,8 +7,8 @@ use native.Mathlib.Omega.{arith}
 use Rattle.structure.specs.Plan.{planCodes}
 use Rattle.structure.specs.Stored.{Stored}
 use Rattle.flow.specs.Laws.{filled}
-use Rattle.flow.specs.Rows.{blockRows, edgeRows, shownRows}
-use Rattle.flow.specs.Terms.{blocks-length, edges-length, shown-length}
+use Rattle.flow.specs.Rows.{edgeRows, shownRows}
+use Rattle.flow.specs.Terms.{edges-length, shown-length}
 use Rattle.flow.specs.Counted.{limits-small}
 use Rattle.flow.specs.Planned.{recordPlan}
 use Rattle.flow.proofs.Row.{array}
@@ -17,7 +17,6 @@ use Rattle.flow.proofs.planned.plan_record.Statement.{statement}
 use Rattle.flow.proofs.planned.plan_record.Tie as tie
 use Rattle.flow.proofs.planned.plan_record.Reads as reads
 use Rattle.flow.proofs.planned.plan_record.Lts as lts
-use Rattle.flow.proofs.rows.block_rows.Reads as block-rows-reads
 use Rattle.flow.proofs.rows.edge_rows.Reads as edge-rows-reads
 use Rattle.flow.proofs.rows.shown_rows.Reads as shown-rows-reads
 use Rattle.lists.proofs.parts.part.Reads as part-reads
@@ -31,12 +30,6 @@ use Rattle.structure.proofs.plan.plan.Reads as plan-reads
 same : (b b′ d d′ v v′ st st′ t t′ : List ℕ) (n i j k r : ℕ) (l l′ : List ℕ) → Stored l 0 (planCodes b d v st t n i j k) r l′ → b ≡ b′ → d ≡ d′ → v ≡ v′ → st ≡ st′ → t ≡ t′
     → Stored l 0 (planCodes b′ d′ v′ st′ t′ n i j k) r l′
 same b b′ d d′ v v′ st st′ t t′ n i j k r l l′ p a c e f g = rw (← a, ← c, ← e, ← f, ← g) p
-
-slice-aggregate-block-rows : tie.Need-slice-aggregate-block-rows
-slice-aggregate-block-rows c = search needs
-
-block-rows-requires : tie.Need-block-rows-requires
-block-rows-requires c κs = search needs
 
 slice-aggregate-edge-rows : tie.Need-slice-aggregate-edge-rows
 slice-aggregate-edge-rows c = search needs
@@ -62,23 +55,11 @@ mul-part-u16 c = search needs
 part-u16-requires : tie.Need-part-u16-requires
 part-u16-requires c κs = search needs
 
-slice-aggregate-part-u16-2 : tie.Need-slice-aggregate-part-u16-2
-slice-aggregate-part-u16-2 c = search needs
-
-size-requires-2 : tie.Need-size-requires-2
-size-requires-2 c κs = search needs
-
-mul-part-u16-2 : tie.Need-mul-part-u16-2
-mul-part-u16-2 c = search needs
-
-part-u16-requires-2 : tie.Need-part-u16-requires-2
-part-u16-requires-2 c κs = search needs
-
 slice-aggregate-part : tie.Need-slice-aggregate-part
 slice-aggregate-part c = search needs
 
-size-requires-3 : tie.Need-size-requires-3
-size-requires-3 c κs = search needs
+size-requires-2 : tie.Need-size-requires-2
+size-requires-2 c κs = search needs
 
 part-requires : tie.Need-part-requires
 part-requires c κs = search needs
@@ -101,32 +82,26 @@ same-length c = search needs
 returns : tie.Need-returns
 unfolding recordPlan
 returns c =
-    let z = c .before .before .before .before .before .before .before .before .before .before .before .before .before .before .before .before .before .before .before .before .before .before .before .before .before .before .before .before in
+    let p = c .before .before .before .before .before .before .before in
+    let q = p .before .before .before in
+    let e = q .before .before .before .before .before .before .before in
+    let z = e .before .before .before .before .before .before in
     let h = z .args .h in
     let s = z .args .rec .now in
     let small = limits-small h (z .pre .1 .0) in
-    let p = c .before .before .before .before .before .before .before in
-    let q = p .before .before .before in
-    let f = q .before .before .before in
-    let e = f .before .before .before .before .before .before .before in
-    let b =
-    filled (blockRows h s) _ _ _ (8 * f .before .size .result) (8 * h .blocks) (blocks-length h s) (omega (arith, small .blocks)) (omega (arith, f .before .size .ensures))
-    (e .before .before .before .block-rows .ensures) (f .part-u16 .ensures) in
     let d =
-    filled (edgeRows h s) _ _ _ (2 * q .before .size2 .result) (2 * h .edges) (edges-length h s) (omega (arith, small .edges)) (omega (arith, q .before .size2 .ensures))
-    (e .edge-rows .ensures) (q .part-u162 .ensures) in
+    filled (edgeRows h s) _ _ _ (2 * q .before .size .result) (2 * h .edges) (edges-length h s) (omega (arith, small .edges)) (omega (arith, q .before .size .ensures))
+    (e .edge-rows .ensures) (q .part-u16 .ensures) in
     let v =
-    filled (shownRows h s) _ _ _ _ (h .instructions) (shown-length h s) (omega (arith, small .instructions)) (p .before .size3 .ensures .0)
-    (f .before .before .before .before .shown-rows .ensures) (p .part .ensures .0) in
-    same _ _ _ _ _ _ _ _ _ _ _ _ _ _ _ _ _ (c .before .before .plan .ensures) b d v (c .before .before .before .before .before .before .from .ensures .0)
+    filled (shownRows h s) _ _ _ _ (h .instructions) (shown-length h s) (omega (arith, small .instructions)) (p .before .size2 .ensures .0)
+    (q .before .before .before .before .shown-rows .ensures) (p .part .ensures .0) in
+    same _ _ _ _ _ _ _ _ _ _ _ _ _ _ _ _ _ (c .before .before .plan .ensures) (z .pre .1 .1) d v (c .before .before .before .before .before .before .from .ensures .0)
     (array _ _ _ _ (c .before .before .before .before .before .targets-at .ensures .0) (c .before .before .before .before .from2 .ensures .0))
 
 pub plan-record-spec : {M : Type 1} → statement M
 plan-record-spec =
     tie.close
     (tie.spec
-    slice-aggregate-block-rows
-    block-rows-requires
     slice-aggregate-edge-rows
     edge-rows-requires
     slice-aggregate-shown-rows
@@ -135,12 +110,8 @@ plan-record-spec =
     size-requires
     mul-part-u16
     part-u16-requires
-    slice-aggregate-part-u16-2
-    size-requires-2
-    mul-part-u16-2
-    part-u16-requires-2
     slice-aggregate-part
-    size-requires-3
+    size-requires-2
     part-requires
     from-requires
     targets-at-requires
