@@ -1,2 +1,6 @@
 // The call: questions, sizes, lists.
+pub mod parts;
+pub mod rooms;
+pub mod marks;
+pub mod sizes;
 pub mod call;
