@@ -1,7 +1,7 @@
 // The call that lists a range.
-use crate::parts::part_u64;
 use crate::marks::put_addresses;
 use crate::marks::put_marks;
+use crate::parts::part_u64;
 use crate::rooms::Rooms;
 use crate::rooms::Sizes;
 use crate::rooms::room_no;

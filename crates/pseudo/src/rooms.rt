@@ -24,7 +24,10 @@ pub fn room_no(sizes: Sizes, rooms: Rooms) -> u8
 {
     if sizes.text <= rooms.text {
         if (sizes.tokens <= rooms.ends) & (sizes.tokens <= rooms.kinds) {
-            if (sizes.lines <= rooms.addresses) & (sizes.lines <= rooms.marks) & (sizes.lines <= rooms.lines) {
+            if (sizes.lines <= rooms.addresses)
+                & (sizes.lines <= rooms.marks)
+                & (sizes.lines <= rooms.lines)
+            {
                 return 0;
             }
             return 14;
