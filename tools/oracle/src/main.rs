@@ -60,13 +60,15 @@ fn read(file: &str) -> Result<Vec<u8>, String> {
     Ok(bytes)
 }
 
-/// The whole range unless one is given; `no N` for a refused record, as the program `listing` does.
+/// What the program `listing` prints, or the lines of a range.
 fn list(file: &str, range: Option<(usize, usize)>) -> Result<bool, String> {
     let bytes = read(file)?;
-    let blocks = if bytes.len() >= record::HEADER { record::Layout::of(&bytes).b } else { 0 };
-    let (from, to) = range.unwrap_or((0, blocks));
-    match questions::first_no(&bytes, from, to) {
-        0 => write(&listing::list(&bytes, from, to).map_err(|e| format!("the Rust panics: {e}"))?.print()),
-        n => write(format!("no {n}\n").as_bytes()),
-    }
+    let printed = match range {
+        None => listing::program(&bytes),
+        Some((from, to)) => match questions::first_no(&bytes, from, to) {
+            0 => listing::list(&bytes, from, to).map(|l| l.print()),
+            n => Ok(listing::refusal(n)),
+        },
+    };
+    write(&printed.map_err(|e| format!("the Rust panics: {e}"))?)
 }

@@ -71,6 +71,36 @@ fn worked_example() {
     assert_eq!(String::from_utf8(list(&bytes, 0, 3).unwrap().print()).unwrap(), EXAMPLE);
 }
 
+/// The program's own limits: 65,536 text bytes, 16,384 tokens, and longer input cut.
+#[test]
+fn limits_of_the_program() {
+    let program = |record: &Record| String::from_utf8(crate::listing::program(&record.to_bytes()).unwrap()).unwrap();
+    assert_eq!(program(&example()), EXAMPLE);
+    let cut = crate::listing::program(&[&example().to_bytes()[..], &[0; 70_000]].concat()).unwrap();
+    assert_eq!(cut, b"no 4\n");
+    assert_eq!(crate::listing::program(&[]).unwrap(), b"no 1\n");
+    let literal = imm(5, 0x5000);
+    let pushes = |pushed: Operand, n: usize, calls: usize| {
+        let mut insns = vec![insn(m::PUSH, &[pushed]); n];
+        insns.resize(n + calls, insn(m::JMP, &[MEM]));
+        Record {
+            bits: 32,
+            atlas: vec![Entry { address: 0x5000, kind: 1, text: vec![b'a'; 80] }],
+            spans: vec![(0x5000, 0x5000)],
+            ..one_block(insns)
+        }
+    };
+    // Each line is `return unk_0(A, A, ..);` with n arguments, a literal having 82 bytes.
+    let text = |n: usize, calls: usize| calls * ("return unk_0();".len() + 82 * n + 2 * (n - 1));
+    assert!(text(10, 76) <= 65_536 && text(10, 77) > 65_536);
+    assert!(program(&pushes(literal, 10, 76)).starts_with("lines=76\n"));
+    assert_eq!(program(&pushes(literal, 10, 77)), "no 12\n");
+    let tokens = |n: usize, calls: usize| calls * (4 + 2 * n);
+    assert!(tokens(126, 64) == 16_384 && tokens(126, 65) > 16_384);
+    assert!(program(&pushes(reg(r::EAX), 126, 64)).starts_with("lines=64\n"));
+    assert_eq!(program(&pushes(reg(r::EAX), 126, 65)), "no 13\n");
+}
+
 #[test]
 fn lists_of_the_example() {
     let listing = list(&example().to_bytes(), 0, 3).unwrap();
