@@ -28,6 +28,23 @@ pub fn run(record: &Record, from: usize, to: usize) -> (Vec<PseudoLine>, u64) {
     (out, tag)
 }
 
+/// How long `times` listings of the whole range take, with the Rust's own structures made beforehand.
+pub fn time(record: &Record, times: usize) -> std::time::Duration {
+    let binary = Binary::new(record);
+    let order: Vec<u64> = record.blocks.iter().map(|b| b.start).collect();
+    let blocks = blocks(record, free_tag(record));
+    let mut ctx = context(record, &binary, free_tag(record));
+    let began = std::time::Instant::now();
+    for _ in 0..times {
+        let mut out = Vec::new();
+        ctx.written.clear();
+        ctx.pushes.clear();
+        emit_range(&mut ctx, &blocks, &order, 0, order.len(), record.indent, &mut out, &mut BTreeSet::new());
+        std::hint::black_box(&out);
+    }
+    began.elapsed()
+}
+
 /// Every operand slot of every instruction, read as `Ctx::op` does.
 pub fn operands(record: &Record) -> Vec<[Vec<Token>; 5]> {
     let binary = Binary::new(record);
