@@ -4,3 +4,4 @@ pub mod Forms
 pub mod Codes
 pub mod Print
 pub mod Lines
+pub mod ArgumentLaw
