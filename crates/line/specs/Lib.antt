@@ -5,3 +5,4 @@ pub mod Codes
 pub mod Print
 pub mod Lines
 pub mod ArgumentLaw
+pub mod Cases

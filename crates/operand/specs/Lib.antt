@@ -8,4 +8,3 @@ pub mod Lent
 pub mod Sized
 pub mod Accepted
 pub mod Export
-pub mod Cases
