@@ -7,3 +7,4 @@ pub mod Names
 pub mod Pieces
 pub mod Turns
 pub mod ArgumentLaw
+pub mod Exports

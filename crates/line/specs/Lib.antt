@@ -6,3 +6,4 @@ pub mod Print
 pub mod Lines
 pub mod ArgumentLaw
 pub mod Cases
+pub mod Export
