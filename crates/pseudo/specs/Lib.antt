@@ -1,4 +1,3 @@
-pub mod AskedLaws
 pub mod Listed
 pub mod Marks
 pub mod Called

@@ -53,11 +53,11 @@ pub fn operands(record: &Record) -> Vec<[Vec<Token>; 5]> {
     record.insns().map(|i| slots(&Ins::new(i, 0))).collect()
 }
 
-/// The address of every instruction's memory operand, as `lea` prints it.
-pub fn addresses(record: &Record) -> Vec<Vec<Token>> {
+/// Every instruction's memory operand, read, or as the address that `lea` prints.
+pub fn memory(record: &Record, read: bool) -> Vec<Vec<Token>> {
     let binary = Binary::new(record);
     let ctx = context(record, &binary, 0);
-    record.insns().map(|i| joined(ctx.mem(&Ins::new(i, 0), false))).collect()
+    record.insns().map(|i| joined(ctx.mem(&Ins::new(i, 0), read))).collect()
 }
 
 /// What a condition (1 to 16) prints when each instruction tests it, block by block.
