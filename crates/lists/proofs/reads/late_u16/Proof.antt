@@ -1,10 +1,10 @@
 use mathlib.Core.Path.{sym}
 use Rattle.lists.proofs.Past.{u16-past}
 use borrow.Author.Needs.{needs}
-use Rattle.lists.proofs.reads.u16_at.Statement.{statement}
-use Rattle.lists.proofs.reads.u16_at.Tie as tie
-use Rattle.lists.proofs.reads.u16_at.Reads as reads
-use Rattle.lists.proofs.reads.u16_at.Lts as lts
+use Rattle.lists.proofs.reads.late_u16.Statement.{statement}
+use Rattle.lists.proofs.reads.late_u16.Tie as tie
+use Rattle.lists.proofs.reads.late_u16.Reads as reads
+use Rattle.lists.proofs.reads.late_u16.Lts as lts
 use Rattle.lists.proofs.reads.u8_at.Reads as u8-at-reads
 
 -- src/reads.rt:17:19
@@ -43,8 +43,8 @@ returns c = search needs
 returns-2 : tie.Need-returns-2
 returns-2 c = (sym (u16-past (c .before .before .args .s .now) _ (c .if1 .left)), search needs)
 
-pub u16-at-spec : {M : Type 1} → statement M
-u16-at-spec =
+pub late-u16-spec : {M : Type 1} → statement M
+late-u16-spec =
     tie.close
     (tie.spec
     u8-at-requires

@@ -1,27 +1,27 @@
 use mathlib.Core.Path.{sym}
 use Rattle.lists.proofs.Past.{u64-past}
 use borrow.Author.Needs.{needs}
-use Rattle.lists.proofs.reads.u64_at.Statement.{statement}
-use Rattle.lists.proofs.reads.u64_at.Tie as tie
-use Rattle.lists.proofs.reads.u64_at.Reads as reads
-use Rattle.lists.proofs.reads.u64_at.Lts as lts
-use Rattle.lists.proofs.reads.u32_at.Reads as u32-at-reads
+use Rattle.lists.proofs.reads.late_u64.Statement.{statement}
+use Rattle.lists.proofs.reads.late_u64.Tie as tie
+use Rattle.lists.proofs.reads.late_u64.Reads as reads
+use Rattle.lists.proofs.reads.late_u64.Lts as lts
+use Rattle.lists.proofs.reads.late_u32.Reads as late-u32-reads
 
 -- src/reads.rt:37:19
-u32-at-requires : tie.Need-u32-at-requires
-u32-at-requires c κs = search needs
+late-u32-requires : tie.Need-late-u32-requires
+late-u32-requires c κs = search needs
 
 -- src/reads.rt:37:19
 cast-low : tie.Need-cast-low
 cast-low c = search needs
 
 -- src/reads.rt:38:32
-add-u32-at : tie.Need-add-u32-at
-add-u32-at c = search needs
+add-late-u32 : tie.Need-add-late-u32
+add-late-u32 c = search needs
 
 -- src/reads.rt:38:22
-u32-at-requires-2 : tie.Need-u32-at-requires-2
-u32-at-requires-2 c κs = search needs
+late-u32-requires-2 : tie.Need-late-u32-requires-2
+late-u32-requires-2 c κs = search needs
 
 -- src/reads.rt:38:22
 cast-result : tie.Need-cast-result
@@ -43,14 +43,14 @@ returns c = search needs
 returns-2 : tie.Need-returns-2
 returns-2 c = (sym (u64-past (c .before .before .args .s .now) _ (c .if1 .left)), search needs)
 
-pub u64-at-spec : {M : Type 1} → statement M
-u64-at-spec =
+pub late-u64-spec : {M : Type 1} → statement M
+late-u64-spec =
     tie.close
     (tie.spec
-    u32-at-requires
+    late-u32-requires
     cast-low
-    add-u32-at
-    u32-at-requires-2
+    add-late-u32
+    late-u32-requires-2
     cast-result
     mul-result
     add-result

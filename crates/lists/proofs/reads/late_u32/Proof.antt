@@ -1,27 +1,27 @@
 use mathlib.Core.Path.{sym}
 use Rattle.lists.proofs.Past.{u32-past}
 use borrow.Author.Needs.{needs}
-use Rattle.lists.proofs.reads.u32_at.Statement.{statement}
-use Rattle.lists.proofs.reads.u32_at.Tie as tie
-use Rattle.lists.proofs.reads.u32_at.Reads as reads
-use Rattle.lists.proofs.reads.u32_at.Lts as lts
-use Rattle.lists.proofs.reads.u16_at.Reads as u16-at-reads
+use Rattle.lists.proofs.reads.late_u32.Statement.{statement}
+use Rattle.lists.proofs.reads.late_u32.Tie as tie
+use Rattle.lists.proofs.reads.late_u32.Reads as reads
+use Rattle.lists.proofs.reads.late_u32.Lts as lts
+use Rattle.lists.proofs.reads.late_u16.Reads as late-u16-reads
 
 -- src/reads.rt:27:19
-u16-at-requires : tie.Need-u16-at-requires
-u16-at-requires c κs = search needs
+late-u16-requires : tie.Need-late-u16-requires
+late-u16-requires c κs = search needs
 
 -- src/reads.rt:27:19
 cast-low : tie.Need-cast-low
 cast-low c = search needs
 
 -- src/reads.rt:28:32
-add-u16-at : tie.Need-add-u16-at
-add-u16-at c = search needs
+add-late-u16 : tie.Need-add-late-u16
+add-late-u16 c = search needs
 
 -- src/reads.rt:28:22
-u16-at-requires-2 : tie.Need-u16-at-requires-2
-u16-at-requires-2 c κs = search needs
+late-u16-requires-2 : tie.Need-late-u16-requires-2
+late-u16-requires-2 c κs = search needs
 
 -- src/reads.rt:28:22
 cast-result : tie.Need-cast-result
@@ -43,14 +43,14 @@ returns c = search needs
 returns-2 : tie.Need-returns-2
 returns-2 c = (sym (u32-past (c .before .before .args .s .now) _ (c .if1 .left)), search needs)
 
-pub u32-at-spec : {M : Type 1} → statement M
-u32-at-spec =
+pub late-u32-spec : {M : Type 1} → statement M
+late-u32-spec =
     tie.close
     (tie.spec
-    u16-at-requires
+    late-u16-requires
     cast-low
-    add-u16-at
-    u16-at-requires-2
+    add-late-u16
+    late-u16-requires-2
     cast-result
     mul-result
     add-result
