@@ -216,8 +216,7 @@ pub fn whole(seed: u64, count: usize) -> Result<bool, String> {
     let mut tally = Tally::new("listing");
     let mut seen = Seen::default();
     for n in 0..count {
-        let valid = damage::valid_call(&mut rng);
-        let call = if n % 8 == 7 { damage::damaged(&mut rng, &valid) } else { valid };
+        let call = listing_call(&mut rng, n);
         tally.compared += 1;
         if let Err(why) = lists_alike(&call, port, n, &mut seen) {
             tally.differs(&call, || why)?;
@@ -225,6 +224,16 @@ pub fn whole(seed: u64, count: usize) -> Result<bool, String> {
     }
     seen.print();
     Ok(tally.end())
+}
+
+/// Call `n` of the listing comparison: valid, and now and then damaged.
+pub fn listing_call(rng: &mut Rng, n: usize) -> Call {
+    let valid = damage::valid_call(rng);
+    if n % 8 == 7 {
+        damage::damaged(rng, &valid)
+    } else {
+        valid
+    }
 }
 
 /// What a call of the port left: the answer, the sizes, and the six lists whole.

@@ -6,6 +6,8 @@ pub mod damage;
 pub mod demand3;
 pub mod gen;
 pub mod listing;
+#[cfg(mutants)]
+pub mod mutants;
 pub mod pieces;
 pub mod questions;
 pub mod record;

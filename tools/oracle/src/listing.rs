@@ -37,13 +37,20 @@ pub fn list(bytes: &[u8], from: usize, to: usize) -> Result<Listing, String> {
 }
 
 pub fn list_record(record: &Record, from: usize, to: usize) -> Result<Listing, String> {
+    list_by(emitter::run, record, from, to)
+}
+
+/// What lists a range: the emitter, or a mutant of it.
+pub type Run = fn(&Record, usize, usize) -> (Vec<PseudoLine>, u64);
+
+pub fn list_by(run: Run, record: &Record, from: usize, to: usize) -> Result<Listing, String> {
     QUIET.set(true);
-    let run = catch_unwind(AssertUnwindSafe(|| emitter::run(record, from, to)));
+    let done = catch_unwind(AssertUnwindSafe(|| {
+        let (lines, tag) = run(record, from, to);
+        lists(record, &lines, tag)
+    }));
     QUIET.set(false);
-    match run {
-        Ok((lines, tag)) => Ok(lists(record, &lines, tag)),
-        Err(e) => Err(message(e)),
-    }
+    done.map_err(message)
 }
 
 thread_local! {

@@ -40,9 +40,16 @@ fn number(word: &str) -> Result<usize, String> {
 }
 
 fn compare(what: &str, seed: &str, count: &str) -> Result<bool, String> {
-    let found = compare::COMPARISONS.iter().find(|(name, _)| *name == what);
-    let (_, run) = found.ok_or_else(|| USAGE.to_string())?;
+    let run = comparison(what).ok_or_else(|| USAGE.to_string())?;
     run(number(seed)? as u64, number(count)?)
+}
+
+fn comparison(what: &str) -> Option<compare::Comparison> {
+    #[cfg(mutants)]
+    if what == "mutants" {
+        return Some(oracle::mutants::mutants);
+    }
+    compare::COMPARISONS.iter().find(|(name, _)| *name == what).map(|(_, run)| *run)
 }
 
 fn write(bytes: &[u8]) -> Result<bool, String> {

@@ -1,0 +1,57 @@
+//! One-line mutants of the Rust, each compiled beside it: a mutant is noticed at the first range
+//! of the `listing` comparison at which a list of its listing is not the Rust's.
+
+use crate::compare::listing_call;
+use crate::emitter::{self, PseudoLine};
+use crate::listing::{self, Run};
+use crate::questions;
+use crate::record::Record;
+use crate::rng::Rng;
+
+pub struct Mutant {
+    name: &'static str,
+    function: &'static str,
+    run: Run,
+}
+
+/// A mutant's lines, as lines of the emitter.
+macro_rules! run_of {
+    ($mutant:ident) => {
+        |record, from, to| {
+            let (lines, tag) = $mutant::run(record, from, to);
+            let plain = |l: $mutant::PseudoLine| PseudoLine { address: l.address, indent: l.indent, tokens: l.tokens };
+            (lines.into_iter().map(plain).collect(), tag)
+        }
+    };
+}
+
+include!(concat!(env!("OUT_DIR"), "/mutants.rs"));
+
+/// Tries every mutant on so many ranges; tells whether all were noticed.
+pub fn mutants(seed: u64, count: usize) -> Result<bool, String> {
+    let mut rng = Rng::new(seed);
+    let mut noticed: Vec<Option<usize>> = vec![None; MUTANTS.len()];
+    for n in 0..count {
+        let call = listing_call(&mut rng, n);
+        if questions::first_no(&call.bytes, call.from, call.to) == 0 {
+            notice(&Record::parse(&call.bytes), call.from, call.to, n, &mut noticed)?;
+        }
+    }
+    for (mutant, at) in MUTANTS.iter().zip(&noticed) {
+        let verdict = at.map_or("SURVIVED".to_string(), |n| format!("noticed at range {n}"));
+        println!("{:32} {:26} {verdict}", mutant.name, mutant.function);
+    }
+    let survived = noticed.iter().filter(|n| n.is_none()).count();
+    println!("mutants: {} tried, {} noticed, {survived} survived", MUTANTS.len(), MUTANTS.len() - survived);
+    Ok(survived == 0)
+}
+
+/// Tries the mutants that are left on range `n`.
+fn notice(record: &Record, from: usize, to: usize, n: usize, noticed: &mut [Option<usize>]) -> Result<(), String> {
+    let ours = listing::list_by(emitter::run, record, from, to).map_err(|e| format!("the Rust panics: {e}"))?;
+    for (mutant, at) in MUTANTS.iter().zip(noticed).filter(|(_, at)| at.is_none()) {
+        let same = listing::list_by(mutant.run, record, from, to).is_ok_and(|l| ours.difference(&l).is_none());
+        *at = (!same).then_some(n);
+    }
+    Ok(())
+}
