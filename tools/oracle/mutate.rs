@@ -1,10 +1,13 @@
 //! One-line mutants of the copied items: each becomes a module of its own beside the emitter.
 //!
-//! The list has for each mutant three lines; empty lines and lines that begin with `#` say nothing:
+//! The list has for each mutant these lines; empty lines and lines that begin with `#` say nothing:
 //!
 //!     NAME: FUNCTION          or NAME: FUNCTION N, for the Nth such line of the function
 //!     - the line as the Rust has it, without the blanks around it
 //!     + the line in its place
+//!     = why no record tells the two apart, if none does
+
+use std::iter::Peekable;
 
 use crate::item_end;
 
@@ -15,6 +18,8 @@ struct Mutant<'a> {
     nth: usize,
     old: &'a str,
     new: &'a str,
+    /// Why the mutant lists as the Rust does; empty if it must not.
+    equivalent: &'a str,
 }
 
 /// The line of the emitter that the mutated items stand for.
@@ -28,25 +33,36 @@ pub fn modules(emitter: &str, items: &str, list: &str) -> Result<String, String>
     for (n, mutant) in read(list)?.iter().enumerate() {
         let mutated = apply(items, mutant).map_err(|why| format!("mutant {}: {why}", mutant.name))?;
         modules += &format!("mod m{n} {{\n{before}{mutated}{after}\n}}\n");
-        table += &format!("    Mutant {{ name: {:?}, function: {:?}, run: run_of!(m{n}) }},\n", mutant.name, mutant.function);
+        table += &row(n, mutant);
     }
     Ok(modules + &table + "];\n")
 }
 
-fn read(list: &str) -> Result<Vec<Mutant<'_>>, String> {
-    let lines: Vec<&str> = list.lines().map(str::trim_end).filter(|l| !l.is_empty() && !l.starts_with('#')).collect();
-    lines.chunks(3).map(|c| mutant(c).ok_or_else(|| format!("expected three lines of a mutant: {c:?}"))).collect()
+fn row(n: usize, mutant: &Mutant) -> String {
+    let Mutant { name, function, equivalent, .. } = mutant;
+    format!("    Mutant {{ name: {name:?}, function: {function:?}, equivalent: {equivalent:?}, run: run_of!(m{n}) }},\n")
 }
 
-fn mutant<'a>(lines: &[&'a str]) -> Option<Mutant<'a>> {
-    let [title, old, new] = lines else { return None };
+fn read(list: &str) -> Result<Vec<Mutant<'_>>, String> {
+    let mut lines = list.lines().map(str::trim_end).filter(|l| !l.is_empty() && !l.starts_with('#')).peekable();
+    let mut mutants = Vec::new();
+    while let Some(title) = lines.next() {
+        let mutant = mutant(title, &mut lines).ok_or_else(|| format!("expected a mutant at `{title}`"))?;
+        mutants.push(mutant);
+    }
+    Ok(mutants)
+}
+
+fn mutant<'a>(title: &'a str, lines: &mut Peekable<impl Iterator<Item = &'a str>>) -> Option<Mutant<'a>> {
     let (name, place) = title.split_once(": ")?;
     let (function, nth) = match place.split_once(' ') {
         Some((function, nth)) => (function, nth.parse().ok()?),
         None => (place, 0),
     };
-    let new = if *new == "+" { "" } else { new.strip_prefix("+ ")? };
-    Some(Mutant { name, function, nth, old: old.strip_prefix("- ")?, new })
+    let old = lines.next()?.strip_prefix("- ")?;
+    let new = lines.next()?.strip_prefix('+')?.trim_start();
+    let equivalent = lines.next_if(|l| l.starts_with("= ")).map_or("", |l| &l[2..]);
+    Some(Mutant { name, function, nth, old, new, equivalent })
 }
 
 /// The items with the mutant's line in place of the old one.

@@ -11,6 +11,8 @@ use crate::rng::Rng;
 pub struct Mutant {
     name: &'static str,
     function: &'static str,
+    /// Why no record tells the mutant from the Rust; empty if one must.
+    equivalent: &'static str,
     run: Run,
 }
 
@@ -27,7 +29,7 @@ macro_rules! run_of {
 
 include!(concat!(env!("OUT_DIR"), "/mutants.rs"));
 
-/// Tries every mutant on so many ranges; tells whether all were noticed.
+/// Tries every mutant on so many ranges; tells whether all were noticed but those said to be equivalent.
 pub fn mutants(seed: u64, count: usize) -> Result<bool, String> {
     let mut rng = Rng::new(seed);
     let mut noticed: Vec<Option<usize>> = vec![None; MUTANTS.len()];
@@ -38,12 +40,22 @@ pub fn mutants(seed: u64, count: usize) -> Result<bool, String> {
         }
     }
     for (mutant, at) in MUTANTS.iter().zip(&noticed) {
-        let verdict = at.map_or("SURVIVED".to_string(), |n| format!("noticed at range {n}"));
-        println!("{:32} {:26} {verdict}", mutant.name, mutant.function);
+        println!("{:26} {:26} {}", mutant.name, mutant.function, mutant.verdict(*at));
     }
-    let survived = noticed.iter().filter(|n| n.is_none()).count();
+    let survived = noticed.iter().filter(|at| at.is_none()).count();
     println!("mutants: {} tried, {} noticed, {survived} survived", MUTANTS.len(), MUTANTS.len() - survived);
-    Ok(survived == 0)
+    Ok(MUTANTS.iter().zip(&noticed).all(|(mutant, at)| at.is_none() != mutant.equivalent.is_empty()))
+}
+
+impl Mutant {
+    fn verdict(&self, at: Option<usize>) -> String {
+        match (at, self.equivalent) {
+            (None, "") => "SURVIVED".to_string(),
+            (None, why) => format!("SURVIVED, as it must: {why}"),
+            (Some(n), "") => format!("noticed at range {n}"),
+            (Some(n), _) => format!("noticed at range {n}, though said to be equivalent"),
+        }
+    }
 }
 
 /// Tries the mutants that are left on range `n`.
