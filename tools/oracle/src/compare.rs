@@ -256,7 +256,7 @@ pub struct Lists {
 
 impl Lists {
     /// Lists of these lengths, filled with something that no listing writes throughout.
-    fn lent(text: usize, tokens: [usize; 2], lines: [usize; 3]) -> Lists {
+    pub fn lent(text: usize, tokens: [usize; 2], lines: [usize; 3]) -> Lists {
         Lists {
             text: vec![0xee; text],
             ends: vec![0xeeee_eeee; tokens[0]],
@@ -265,6 +265,18 @@ impl Lists {
             marks: vec![0xeeee; lines[1]],
             line_ends: vec![0xeeee_eeee; lines[2]],
         }
+    }
+
+    /// The lists as an accepted call leaves them: the Rust's, and what lies past it as it was lent.
+    pub fn filled(mut self, ours: &listing::Listing) -> Lists {
+        let (x, k, l) = (ours.text.len(), ours.token_ends.len(), ours.lines());
+        self.text[..x].copy_from_slice(&ours.text);
+        self.ends[..k].copy_from_slice(&ours.token_ends);
+        self.kinds[..k].copy_from_slice(&ours.token_kinds);
+        self.addresses[..l].copy_from_slice(&ours.line_addresses);
+        self.marks[..l].copy_from_slice(&ours.line_marks);
+        self.line_ends[..l].copy_from_slice(&ours.line_ends);
+        self
     }
 }
 
@@ -305,20 +317,14 @@ fn refused(call: &Call, port: port::List, lent: Lists, no: u8) -> Result<(), Str
     Ok(())
 }
 
-/// A listing: the sizes, each list filled with the Rust's, and what lies past it as it was lent.
+/// A listing: the sizes, and the lists as an accepted call leaves them.
 fn accepted(call: &Call, port: port::List, lent: Lists, ours: &listing::Listing) -> Result<(), String> {
     let left = port(&call.bytes, call.from, call.to, lent.clone());
     let sizes = [ours.text.len(), ours.token_ends.len(), ours.lines()];
     if left.no != 0 || left.sizes != sizes {
         return Err(format!("the Rust lists {sizes:?}, the port says {} with sizes {:?}", left.no, left.sizes));
     }
-    let mut want = lent;
-    want.text[..sizes[0]].copy_from_slice(&ours.text);
-    want.ends[..sizes[1]].copy_from_slice(&ours.token_ends);
-    want.kinds[..sizes[1]].copy_from_slice(&ours.token_kinds);
-    want.addresses[..sizes[2]].copy_from_slice(&ours.line_addresses);
-    want.marks[..sizes[2]].copy_from_slice(&ours.line_marks);
-    want.line_ends[..sizes[2]].copy_from_slice(&ours.line_ends);
+    let want = lent.filled(ours);
     if left.lists != want {
         return Err(first_unlike(&want, &left.lists));
     }

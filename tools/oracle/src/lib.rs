@@ -11,6 +11,7 @@ pub mod mutants;
 pub mod pieces;
 pub mod questions;
 pub mod record;
+pub mod replay;
 pub mod rng;
 
 #[cfg(port_abi)]

@@ -3,7 +3,7 @@
 use std::io::{Read, Write};
 use std::process::ExitCode;
 
-use oracle::{compare, listing, questions, record};
+use oracle::{compare, listing, questions, record, replay};
 
 const USAGE: &str = "usage: oracle list FILE [FROM TO]     the Rust's listing of a record (- for standard input)
        oracle example                the record of document 01's example, to standard output
@@ -11,7 +11,8 @@ const USAGE: &str = "usage: oracle list FILE [FROM TO]     the Rust's listing of
        oracle operands SEED COUNT    compare the port's operands and addresses with the Rust's
        oracle listing SEED COUNT     compare the port's listings with the Rust's
        oracle sanity SEED COUNT      generated records against the questions, the Rust and demand 3
-       oracle record SEED            a generated record, to standard output";
+       oracle record SEED            a generated record, to standard output
+       oracle replay COUNT SEED      calls with their answers for the replay program, to standard output";
 
 fn main() -> ExitCode {
     listing::report_panics_as_answers();
@@ -22,6 +23,7 @@ fn main() -> ExitCode {
         ["list", file, from, to] => number(from).and_then(|f| number(to).and_then(|t| list(file, Some((f, t))))),
         ["example"] => write(&record::example().to_bytes()),
         ["record", seed] => number(seed).and_then(|s| write(&compare::record(s as u64))),
+        ["replay", count, seed] => number(count).and_then(|n| number(seed).and_then(|s| write(&replay::corpus(n, s as u64)?))),
         [what, seed, count] => compare(what, seed, count),
         _ => Err(USAGE.to_string()),
     };

@@ -2,10 +2,12 @@
 //! of the `listing` comparison at which a list of its listing is not the Rust's.
 
 use crate::compare::listing_call;
+use crate::damage::Call;
 use crate::emitter::{self, PseudoLine};
 use crate::listing::{self, Run};
 use crate::questions;
 use crate::record::Record;
+use crate::replay;
 use crate::rng::Rng;
 
 pub struct Mutant {
@@ -32,19 +34,34 @@ include!(concat!(env!("OUT_DIR"), "/mutants.rs"));
 /// Tries every mutant on so many ranges; tells whether all were noticed but those said to be equivalent.
 pub fn mutants(seed: u64, count: usize) -> Result<bool, String> {
     let mut rng = Rng::new(seed);
-    let mut noticed: Vec<Option<usize>> = vec![None; MUTANTS.len()];
-    for n in 0..count {
-        let call = listing_call(&mut rng, n);
+    let noticed = first_noticed((0..count).map(|n| listing_call(&mut rng, n)))?;
+    for (mutant, at) in MUTANTS.iter().zip(&noticed) {
+        println!("{:26} {:26} {}", mutant.name, mutant.function, mutant.verdict(*at));
+    }
+    print_replay()?;
+    let survived = noticed.iter().filter(|at| at.is_none()).count();
+    println!("mutants: {} tried, {} noticed, {survived} survived", MUTANTS.len(), MUTANTS.len() - survived);
+    Ok(MUTANTS.iter().zip(&noticed).all(|(mutant, at)| at.is_none() != mutant.equivalent.is_empty()))
+}
+
+/// Which mutants the listings of the replay corpus miss.
+fn print_replay() -> Result<(), String> {
+    let calls = replay::cases(replay::COUNT, replay::SEED)?.into_iter().filter(|case| case.no == 0).map(|case| case.call);
+    let noticed = first_noticed(calls)?;
+    let missed: Vec<&str> = MUTANTS.iter().zip(&noticed).filter(|(_, at)| at.is_none()).map(|(m, _)| m.name).collect();
+    println!("the replay corpus notices {}, and misses: {}", MUTANTS.len() - missed.len(), missed.join(", "));
+    Ok(())
+}
+
+/// For each mutant the number of the first call whose listing it changes.
+fn first_noticed(calls: impl Iterator<Item = Call>) -> Result<Vec<Option<usize>>, String> {
+    let mut noticed = vec![None; MUTANTS.len()];
+    for (n, call) in calls.enumerate() {
         if questions::first_no(&call.bytes, call.from, call.to) == 0 {
             notice(&Record::parse(&call.bytes), call.from, call.to, n, &mut noticed)?;
         }
     }
-    for (mutant, at) in MUTANTS.iter().zip(&noticed) {
-        println!("{:26} {:26} {}", mutant.name, mutant.function, mutant.verdict(*at));
-    }
-    let survived = noticed.iter().filter(|at| at.is_none()).count();
-    println!("mutants: {} tried, {} noticed, {survived} survived", MUTANTS.len(), MUTANTS.len() - survived);
-    Ok(MUTANTS.iter().zip(&noticed).all(|(mutant, at)| at.is_none() != mutant.equivalent.is_empty()))
+    Ok(noticed)
 }
 
 impl Mutant {
