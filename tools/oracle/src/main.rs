@@ -24,6 +24,8 @@ fn main() -> ExitCode {
         ["example"] => write(&record::example().to_bytes()),
         ["record", seed] => number(seed).and_then(|s| write(&compare::record(s as u64))),
         ["replay", count, seed] => number(count).and_then(|n| number(seed).and_then(|s| write(&replay::corpus(n, s as u64)?))),
+        #[cfg(mutants)]
+        ["witnesses", count] => number(count).and_then(witnesses),
         [what, seed, count] => compare(what, seed, count),
         _ => Err(USAGE.to_string()),
     };
@@ -44,6 +46,13 @@ fn number(word: &str) -> Result<usize, String> {
 fn compare(what: &str, seed: &str, count: &str) -> Result<bool, String> {
     let run = comparison(what).ok_or_else(|| USAGE.to_string())?;
     run(number(seed)? as u64, number(count)?)
+}
+
+/// The seeds for `src/replay/witnesses.txt`.
+#[cfg(mutants)]
+fn witnesses(count: usize) -> Result<bool, String> {
+    let seeds: Vec<String> = oracle::mutants::witnesses(count)?.iter().map(|s| s.to_string()).collect();
+    write(format!("{}\n", seeds.join("\n")).as_bytes())
 }
 
 fn comparison(what: &str) -> Option<compare::Comparison> {

@@ -1,6 +1,8 @@
 //! One-line mutants of the Rust, each compiled beside it: a mutant is noticed at the first range
 //! of the `listing` comparison at which a list of its listing is not the Rust's.
 
+use std::collections::BTreeSet;
+
 use crate::compare::listing_call;
 use crate::damage::Call;
 use crate::emitter::{self, PseudoLine};
@@ -83,4 +85,22 @@ fn notice(record: &Record, from: usize, to: usize, n: usize, noticed: &mut [Opti
         *at = (!same).then_some(n);
     }
     Ok(())
+}
+
+/// Seeds below `count` of small valid calls that together notice every mutant that one of them notices.
+pub fn witnesses(count: usize) -> Result<Vec<usize>, String> {
+    let is_small = |seed: &usize| replay::valid_call(*seed as u64).bytes.len() <= replay::SMALL;
+    let small: Vec<usize> = (0..count).filter(is_small).collect();
+    // What a later seed notices too, an earlier one need not.
+    let found = firsts(&small)?;
+    let mut needed = firsts(&found.into_iter().rev().collect::<Vec<usize>>())?;
+    needed.sort_unstable();
+    Ok(needed)
+}
+
+/// The seeds that notice a mutant which none before them notices.
+fn firsts(seeds: &[usize]) -> Result<Vec<usize>, String> {
+    let noticed = first_noticed(seeds.iter().map(|seed| replay::valid_call(*seed as u64)))?;
+    let numbers: BTreeSet<usize> = noticed.into_iter().flatten().collect();
+    Ok(numbers.into_iter().map(|n| seeds[n]).collect())
 }

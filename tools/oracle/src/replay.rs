@@ -26,6 +26,9 @@ use crate::rng::Rng;
 pub const COUNT: usize = 300;
 pub const SEED: u64 = 1;
 
+/// The length of most records is at most this.
+pub const SMALL: usize = 1600;
+
 const FACTOR: u64 = 1_000_003;
 const PRIME: u64 = 4_294_967_311;
 
@@ -51,19 +54,30 @@ pub fn corpus(count: usize, seed: u64) -> Result<Vec<u8>, String> {
 }
 
 /// The same count and seed give the same cases: document 01's example first, a record at every limit last, and between
-/// them listings, refusals of every number and lists that are too short in turn.
+/// them listings (those that notice mutants first), refusals of every number and lists that are too short in turn.
 pub fn cases(count: usize, seed: u64) -> Result<Vec<Case>, String> {
     let mut rng = Rng::new(seed);
+    let mut witnesses = witnesses();
     (0..count)
         .map(|n| match n % 10 {
             _ if n == 0 => listed(whole(&record::example()), 0),
             _ if n + 1 == count => listed(until_some(|| at_limits(&mut rng))?, 0),
-            0..=5 => listed(small_call(&mut rng, 2000), n),
             6 | 7 => refused(&mut rng, (1 + n / 5 % 11) as u8),
             8 => too_short(&mut rng, n / 10 % 8),
-            _ => listed(small_call(&mut rng, 4000), n),
+            _ => listed(witnesses.next().unwrap_or_else(|| small_call(&mut rng, SMALL)), n),
         })
         .collect()
+}
+
+/// Calls that notice each mutant of `mutants.txt` that can be noticed. `oracle witnesses` finds their seeds.
+fn witnesses() -> impl Iterator<Item = Call> {
+    let seeds = include_str!("replay/witnesses.txt").split_whitespace();
+    seeds.map(|seed| valid_call(seed.parse().expect("a seed")))
+}
+
+/// The valid call of a seed.
+pub fn valid_call(seed: u64) -> Call {
+    damage::valid_call(&mut Rng::new(seed))
 }
 
 /// The whole range of a record.
