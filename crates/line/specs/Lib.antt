@@ -4,3 +4,7 @@ pub mod Forms
 pub mod Codes
 pub mod Print
 pub mod Lines
+pub mod Bounds
+pub mod ArgumentLaw
+pub mod Cases
+pub mod Export

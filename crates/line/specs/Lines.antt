@@ -1,10 +1,12 @@
 -- A planned line as its code tells it.
 use mathlib.Core.Path.{_≡_, refl, ap, _∙_}
-use mathlib.Core.List.{List, [], _∷_}
-use Prim.Native.Nat.{ℕ, _<_}
+use mathlib.Core.List.{List, [], _∷_, map}
+use Prim.Native.Nat.{ℕ, _≤_, _<_}
+use native.Mathlib.Omega.{arith}
 use lib.ListN.{getD}
 use Rattle.structure.specs.Plan.{What, Line, line, whatNumber, codeOf}
 use Rattle.structure.specs.Plan.What.{label-line, do-line, open-line, if-goto, while-line, close-line, goto-line, tail-call, insn-line}
+use Rattle.structure.specs.Placed.{Placed}
 use Rattle.structure.specs.Reads.{whatIn, instructionIn, placeIn, indentIn, Told, told}
 
 -- what a line is, by its number: 8, and any further one, an instruction
@@ -36,3 +38,11 @@ line-again l p q =
     let t : Told l = told l p q in
     let w : whatAt (whatIn (codeOf l)) ≡ l .what = ap whatAt (t .what-told) ∙ what-again (l .what) in
     rw (w, t .place-told, t .instruction-told, t .indent-told)
+
+-- the codes of a plan give back its lines
+pub lines-again : (m n : ℕ) (ls : List Line) → m ≤ 65536 → n < 65536 → Placed m n ls → map lineIn (map codeOf ls) ≡ ls
+lines-again m n [] a b p = refl
+lines-again m n (l ∷ ls) a b p =
+    let first : lineIn (codeOf l) ≡ l = line-again l (omega arith) (omega arith) in
+    let rest : map lineIn (map codeOf ls) ≡ ls = lines-again m n ls a b (p .2) in
+    rw (first, rest)

@@ -21,3 +21,10 @@ pub fn part_u16(s: &[u16], n: usize) -> &[u16]
     let e = within(n, s.len());
     &s[..e]
 }
+
+pub fn part_u64(s: &[u64], n: usize) -> &[u64]
+    ensures { λ r. ⌜ now r ≡ take n (now (s .entry)) ⌝ }
+{
+    let e = within(n, s.len());
+    &s[..e]
+}

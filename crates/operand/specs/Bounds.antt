@@ -54,15 +54,6 @@ pub pick-le : {A : Type 0} (f : A → ℕ) (n : ℕ) (t : Bool) (x y : A) → f 
 pick-le f n true x y p q = p
 pick-le f n false x y p q = q
 
--- every name of every class has at most 5 letters
-abbrev shorts : List (List ℕ) → Bool
-shorts [] = true
-shorts (t ∷ ts) = leb (length t) 5 && shorts ts
-
-abbrev allShorts : List (List (List ℕ)) → Bool
-allShorts [] = true
-allShorts (c ∷ cs) = shorts c && allShorts cs
-
 left : (a b : Bool) → T (a && b) → T a
 left true b t = tt
 left false b t = t
@@ -71,19 +62,27 @@ right : (a b : Bool) → T (a && b) → T b
 right true b t = t
 right false b t = absurd t
 
-name-at : (l : List (List ℕ)) (i : ℕ) → T (shorts l) → length (getD l i []) ≤ 5
-name-at [] i h = omega arith
-name-at (t ∷ l) zero h = leb→le _ _ (left (leb (length t) 5) (shorts l) h)
-name-at (t ∷ l) (suc i) h = name-at l i (right (leb (length t) 5) (shorts l) h)
+-- a test that each entry of a list passes
+abbrev pub every : {A : Type 0} → (A → Bool) → List A → Bool
+every q [] = true
+every q (x ∷ l) = q x && every q l
 
-class-at : (l : List (List (List ℕ))) (k i : ℕ) → T (allShorts l) → length (getD (getD l k []) i []) ≤ 5
-class-at [] k i h = omega arith
-class-at (c ∷ l) zero i h = name-at c i (left (shorts c) (allShorts l) h)
-class-at (c ∷ l) (suc k) i h = class-at l k i (right (shorts c) (allShorts l) h)
+pub every-at : {A : Type 0} (q : A → Bool) (d : A) → T (q d) → (l : List A) (i : ℕ) → T (every q l) → T (q (getD l i d))
+every-at q d p [] i h = p
+every-at q d p (x ∷ l) zero h = left (q x) (every q l) h
+every-at q d p (x ∷ l) (suc i) h = every-at q d p l i (right (q x) (every q l) h)
 
+-- at most n letters
+abbrev pub upTo : ℕ → List ℕ → Bool
+upTo n t = leb (length t) n
+
+-- every name of every class has at most 5 letters
 pub register-short : (r : ℕ) → length (registerName r) ≤ 5
 unfolding registerName registerNames
-register-short r = pick-le length 5 (eqb r 0) _ _ (omega arith) (class-at registerNames (r / 16) (r % 16) tt)
+register-short r =
+    let names = getD registerNames (r / 16) [] in
+    let class = every-at (every (upTo 5)) [] tt registerNames (r / 16) tt in
+    pick-le length 5 (eqb r 0) _ _ (omega arith) (leb→le _ _ (every-at (upTo 5) [] tt names (r % 16) class))
 
 -- signed readings and sums of them
 pub i64-abs : (v : ℕ) → v < 2 ^ 64 → natAbs (i64Of v) ≤ 2 ^ 63
@@ -118,6 +117,10 @@ pub record Within (n m : ℕ) (ts : List Token) : Type 0 where
   pub few : length ts ≤ n
   pub short : length (textOf ts) ≤ m
 
+pub nothing : Within 0 0 []
+unfolding textOf
+nothing = record { few = omega arith; short = omega arith }
+
 pub more : {n m : ℕ} {ts : List Token} (k l : ℕ) → Within n m ts → n ≤ k → m ≤ l → Within k l ts
 more k l p a b = record { few = omega arith; short = omega arith }
 
@@ -134,11 +137,11 @@ pub both : {n m k l : ℕ} {a b : List Token} → Within n m a → Within k l b 
 both {a = a} {b = b} p q = record { few = omega (arith, length-append a b); short = omega (arith, text-append a b) }
 
 -- of two, either
-either : {A : Type 0} (P : A → Type 0) (t : Bool) (x y : A) → P x → P y → P (pick t x y)
+pub either : {A : Type 0} (P : A → Type 0) (t : Bool) (x y : A) → P x → P y → P (pick t x y)
 either P true x y p q = p
 either P false x y p q = q
 
-wrapped : (n m : ℕ) (e : Expr) → Within n m (e .tokens) → Within (n + 2) (m + 2) (wrap e)
+pub wrapped : (n m : ℕ) (e : Expr) → Within n m (e .tokens) → Within (n + 2) (m + 2) (wrap e)
 wrapped n m e p = go (e .loose)
   where
     go : (l : Bool) → Within (n + 2) (m + 2) (wrapIf l (e .tokens))
@@ -149,13 +152,13 @@ addressed : (m : ℕ) (f : Bool) (t : Token) → Within 1 m (t ∷ []) → Withi
 addressed m true t p = more 2 (1 + m) p (omega arith) (omega arith)
 addressed m false t p = both (one (punct "&") 1 (omega arith)) p
 
-register-within : (r : ℕ) → Within 1 5 (registerToken r ∷ [])
+pub register-within : (r : ℕ) → Within 1 5 (registerToken r ∷ [])
 register-within r = one (registerToken r) 5 (register-short r)
 
-number-within : (f : Bool) (v : ℕ) → v < 2 ^ 64 → Within 1 19 (number f v ∷ [])
+pub number-within : (f : Bool) (v : ℕ) → v < 2 ^ 64 → Within 1 19 (number f v ∷ [])
 number-within f v p = one (number f v) 19 (num-64 f v p)
 
-word-within : (w : ℕ) → Within 1 30 (wordToken w ∷ [])
+pub word-within : (w : ℕ) → Within 1 30 (wordToken w ∷ [])
 word-within w = one (wordToken w) 30 (word-short w)
 
 module _ (h : Header) (b : List ℕ) (bs : AllBytes b) where
@@ -207,7 +210,7 @@ module _ (h : Header) (s : List ℕ) (ss : AllBytes s) where
       (one _ 486 (rw length-take (omega (arith, bytes-drop (pairsAt h) s ss (2 * k + 1)))))
       (one _ 486 (literal-short _ _))
 
-  name-within : (va w : ℕ) → va < 2 ^ 64 → Within 1 486 (nameOr h s va w ∷ [])
+  pub name-within : (va w : ℕ) → va < 2 ^ 64 → Within 1 486 (nameOr h s va w ∷ [])
   unfolding nameOr
   name-within va w p = go (entryAt h s va)
     where
@@ -244,7 +247,7 @@ module _ (h : Header) (s b : List ℕ) (ss : AllBytes s) (bs : AllBytes b) where
       (name-within h s ss (memoryAddress b) (prefixWord (memorySize b)) (u64-small b bs 10))
 
   module _ (shift : natAbs (h .shift) ≤ 2 ^ 31) where
-    mem-within : (deref : Bool) → Within 14 487 (memTokens h s deref b)
+    pub mem-within : (deref : Bool) → Within 14 487 (memTokens h s deref b)
     unfolding memTokens memExpr
     mem-within deref =
         either (λ (e : Expr). Within 14 487 (e .tokens)) (isSegmentRead h s b) _ _ (more 14 487 segment-within (omega arith) (omega arith))
@@ -254,7 +257,7 @@ module _ (h : Header) (s b : List ℕ) (ss : AllBytes s) (bs : AllBytes b) where
         (more 14 487 (addressed 46 deref (slotToken h b) (slot-within h b bs shift)) (omega arith) (omega arith))
         (address-either deref)))
 
-    op-within : (i : ℕ) → Within 14 487 (opTokens h s b i)
+    pub op-within : (i : ℕ) → Within 14 487 (opTokens h s b i)
     unfolding opTokens
     op-within i =
         let v = u64-small b bs (operandAt i + 2) in

@@ -1,2 +1,3 @@
 pub mod Listed
+pub mod Marks
 pub mod Called

@@ -1,14 +1,268 @@
 // The call that lists a range.
-
-// How much a listing has.
-pub struct Sizes {
-    pub text: usize,
-    pub tokens: usize,
-    pub lines: usize,
-}
+use crate::marks::put_addresses;
+use crate::marks::put_marks;
+use crate::rooms::Rooms;
+use crate::rooms::Sizes;
+use crate::rooms::room_no;
+use crate::sizes::sizes_of_plan;
+use flow::planned::plan_record;
+use flow::rows::block_rows;
+use line::lines::print_lines;
+use line::rows::row_table;
+use lists::parts::part_u16;
+use lists::parts::part_u64;
+use lists::reads::u16_in;
+use record::asked::Asked;
+use record::asked::record;
+use record::header::Header;
+use record::layout::size;
+use tokens::pen::first_pen;
+use tokens::words::word_table;
+use x86::table::isa;
+ghost use mathlib.Core.List.{map};
+ghost use mathlib.Core.Path.{_≡_};
+ghost use Rattle.operand.specs.Lent.{Lent};
+ghost use Rattle.flow.specs.Rows.{blockRows};
+ghost use Rattle.line.specs.Codes.{rowBytes};
+ghost use Rattle.line.specs.Lines.{lineIn};
+ghost use Rattle.line.specs.Print.{printed};
+ghost use Rattle.line.specs.Bounds.{Fits};
+ghost use Rattle.tokens.specs.Listing.{listing};
+ghost use Rattle.pseudo.specs.Listed.{lineAddress, lineMark};
+ghost use Rattle.pseudo.specs.Marks.{Indented};
+ghost use Rattle.pseudo.specs.Called.{Stands, PlanListed, Accepted, Called};
 
 // A listing with its sizes, or the number of the question that got a no.
 pub enum Answer {
     Listed(Sizes),
     No(u8),
+}
+
+// The six lists of a plan.
+fn put_plan(
+    text: &mut [u8],
+    ends: &mut [u32],
+    kinds: &mut [u8],
+    addresses: &mut [u64],
+    marks: &mut [u16],
+    lines: &mut [u32],
+    words: &[u8],
+    isa: &[u8],
+    rec: &[u8],
+    h: Header,
+    rows: &[u8],
+    blocks: &[u16],
+    range: u16,
+    codes: &[u64],
+)
+    requires { ⌜ Lent (now words) (now isa) h (now rec) ⌝ }
+    requires { ⌜ now rows ≡ rowBytes ⌝ }
+    requires { ⌜ now blocks ≡ blockRows h (now rec) ⌝ }
+    requires { ⌜ Fits (printed h (now rec) range 0 (map lineIn (now codes))) ⌝ }
+    requires { ⌜ Indented (now codes) ⌝ }
+    ensures { λ _. ⌜ Stands (listing (printed h (now (rec .entry)) range 0 (map lineIn (now (codes .entry)))))
+        (map (lineAddress h (now (rec .entry))) (map lineIn (now (codes .entry)))) (map lineMark (map lineIn (now (codes .entry))))
+        (now (text .entry)) (now (text .exit)) (now (ends .entry)) (now (ends .exit)) (now (kinds .entry)) (now (kinds .exit))
+        (now (addresses .entry)) (now (addresses .exit)) (now (marks .entry)) (now (marks .exit)) (now (lines .entry)) (now (lines .exit)) ⌝ }
+{
+    print_lines(
+        lines,
+        text,
+        ends,
+        kinds,
+        first_pen(),
+        words,
+        isa,
+        rec,
+        h,
+        rows,
+        blocks,
+        range,
+        codes,
+    );
+    put_addresses(addresses, rec, h, codes);
+    put_marks(marks, codes);
+}
+
+// The listing of a plan, if the lists have room for it.
+fn list_plan(
+    text: &mut [u8],
+    ends: &mut [u32],
+    kinds: &mut [u8],
+    addresses: &mut [u64],
+    marks: &mut [u16],
+    lines: &mut [u32],
+    words: &[u8],
+    isa: &[u8],
+    rec: &[u8],
+    h: Header,
+    rows: &[u8],
+    blocks: &[u16],
+    range: u16,
+    codes: &[u64],
+) -> Answer
+    requires { ⌜ Lent (now words) (now isa) h (now rec) ⌝ }
+    requires { ⌜ now rows ≡ rowBytes ⌝ }
+    requires { ⌜ now blocks ≡ blockRows h (now rec) ⌝ }
+    requires { ⌜ Fits (printed h (now rec) range 0 (map lineIn (now codes))) ⌝ }
+    requires { ⌜ Indented (now codes) ⌝ }
+    ensures { λ r. ⌜ PlanListed h (now (rec .entry)) range (map lineIn (now (codes .entry)))
+        (now (text .entry)) (now (text .exit)) (now (ends .entry)) (now (ends .exit)) (now (kinds .entry)) (now (kinds .exit))
+        (now (addresses .entry)) (now (addresses .exit)) (now (marks .entry)) (now (marks .exit)) (now (lines .entry)) (now (lines .exit)) r ⌝ }
+{
+    let sizes = sizes_of_plan(words, isa, rec, h, rows, blocks, range, codes);
+    let rooms = Rooms {
+        text: text.len(),
+        ends: ends.len(),
+        kinds: kinds.len(),
+        addresses: addresses.len(),
+        marks: marks.len(),
+        lines: lines.len(),
+    };
+    let no = room_no(sizes, rooms);
+    if no != 0 {
+        return Answer::No(no);
+    }
+    put_plan(
+        text,
+        ends,
+        kinds,
+        addresses,
+        marks,
+        lines,
+        words,
+        isa,
+        rec,
+        h,
+        rows,
+        blocks,
+        range,
+        codes,
+    );
+    Answer::Listed(sizes)
+}
+
+// The listing of a range of an accepted record, from the tables and the blocks' rows.
+fn list_range(
+    text: &mut [u8],
+    ends: &mut [u32],
+    kinds: &mut [u8],
+    addresses: &mut [u64],
+    marks: &mut [u16],
+    lines: &mut [u32],
+    words: &[u8],
+    isa: &[u8],
+    rec: &[u8],
+    h: Header,
+    rows: &[u8],
+    blocks: &[u16],
+    from: u16,
+    to: u16,
+) -> Answer
+    requires { ⌜ Lent (now words) (now isa) h (now rec) ⌝ }
+    requires { ⌜ now rows ≡ rowBytes ⌝ }
+    requires { ⌜ now blocks ≡ blockRows h (now rec) ⌝ }
+    requires { ⌜ Accepted (now rec) from to h ⌝ }
+    ensures { λ r. ⌜ Called (now (rec .entry)) from to
+        (now (text .entry)) (now (text .exit)) (now (ends .entry)) (now (ends .exit)) (now (kinds .entry)) (now (kinds .exit))
+        (now (addresses .entry)) (now (addresses .exit)) (now (marks .entry)) (now (marks .exit)) (now (lines .entry)) (now (lines .exit)) r ⌝ }
+{
+    let mut plan = [0u64; 900];
+    let n = plan_record(isa, rec, h, blocks, from, to, &mut plan);
+    let codes = part_u64(&plan, n);
+    let range = u16_in(blocks, 8 * size(from));
+    list_plan(
+        text,
+        ends,
+        kinds,
+        addresses,
+        marks,
+        lines,
+        words,
+        isa,
+        rec,
+        h,
+        rows,
+        blocks,
+        range,
+        codes,
+    )
+}
+
+// The listing of a range of an accepted record.
+fn list_accepted(
+    text: &mut [u8],
+    ends: &mut [u32],
+    kinds: &mut [u8],
+    addresses: &mut [u64],
+    marks: &mut [u16],
+    lines: &mut [u32],
+    rec: &[u8],
+    h: Header,
+    from: u16,
+    to: u16,
+) -> Answer
+    requires { ⌜ Accepted (now rec) from to h ⌝ }
+    ensures { λ r. ⌜ Called (now (rec .entry)) from to
+        (now (text .entry)) (now (text .exit)) (now (ends .entry)) (now (ends .exit)) (now (kinds .entry)) (now (kinds .exit))
+        (now (addresses .entry)) (now (addresses .exit)) (now (marks .entry)) (now (marks .exit)) (now (lines .entry)) (now (lines .exit)) r ⌝ }
+{
+    let word = word_table();
+    let words: &[u8] = &word;
+    let made = isa();
+    let isa: &[u8] = &made;
+    let row = row_table();
+    let rows: &[u8] = &row;
+    let mut block = [0u16; 1600];
+    block_rows(rec, h, &mut block);
+    let blocks = part_u16(&block, 8 * size(h.blocks));
+    list_range(
+        text,
+        ends,
+        kinds,
+        addresses,
+        marks,
+        lines,
+        words,
+        isa,
+        rec,
+        h,
+        rows,
+        blocks,
+        from,
+        to,
+    )
+}
+
+// Lists the blocks from `from` up to `to` of a record. Nothing is demanded of the caller.
+pub fn list(
+    rec: &[u8],
+    from: usize,
+    to: usize,
+    text: &mut [u8],
+    ends: &mut [u32],
+    kinds: &mut [u8],
+    addresses: &mut [u64],
+    marks: &mut [u16],
+    lines: &mut [u32],
+) -> Answer
+    ensures { λ r. ⌜ Called (now (rec .entry)) from to
+        (now (text .entry)) (now (text .exit)) (now (ends .entry)) (now (ends .exit)) (now (kinds .entry)) (now (kinds .exit))
+        (now (addresses .entry)) (now (addresses .exit)) (now (marks .entry)) (now (marks .exit)) (now (lines .entry)) (now (lines .exit)) r ⌝ }
+{
+    match record(rec, from, to) {
+        Asked::No(n) => Answer::No(n),
+        Asked::Yes(h) => list_accepted(
+            text,
+            ends,
+            kinds,
+            addresses,
+            marks,
+            lines,
+            rec,
+            h,
+            from as u16,
+            to as u16,
+        ),
+    }
 }

@@ -16,6 +16,8 @@ pub mod rng;
 
 #[cfg(port_abi)]
 mod abi;
+#[cfg(port_abi)]
+pub mod bench;
 mod binary;
 mod emitter;
 mod iced;

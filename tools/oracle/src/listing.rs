@@ -5,7 +5,13 @@ use std::panic::{catch_unwind, AssertUnwindSafe};
 
 use crate::emitter::{self, PseudoLine};
 use crate::model::TokenKind;
-use crate::record::Record;
+use crate::questions;
+use crate::record::{Layout, Record, HEADER};
+
+/// What the program `listing` reads at most, and how much text and how many tokens it holds.
+const MOST_INPUT: usize = 65_536;
+const MOST_TEXT: usize = 65_536;
+const MOST_TOKENS: usize = 16_384;
 
 /// The lists of an accepted call.
 #[derive(Clone, Debug, Default, PartialEq, Eq)]
@@ -34,6 +40,26 @@ pub enum Origin {
 /// The Rust's listing of an accepted record's range, or the message of its panic.
 pub fn list(bytes: &[u8], from: usize, to: usize) -> Result<Listing, String> {
     list_record(&Record::parse(bytes), from, to)
+}
+
+/// What the program `listing` prints for this input, or the message of the Rust's panic.
+pub fn program(input: &[u8]) -> Result<Vec<u8>, String> {
+    let bytes = &input[..input.len().min(MOST_INPUT + 1)];
+    let blocks = if bytes.len() >= HEADER { Layout::of(bytes).b } else { 0 };
+    let no = questions::first_no(bytes, 0, blocks);
+    if no != 0 {
+        return Ok(refusal(no));
+    }
+    let listing = list(bytes, 0, blocks)?;
+    Ok(match (listing.text.len() > MOST_TEXT, listing.token_ends.len() > MOST_TOKENS) {
+        (true, _) => refusal(12),
+        (_, true) => refusal(13),
+        _ => listing.print(),
+    })
+}
+
+pub fn refusal(number: u8) -> Vec<u8> {
+    format!("no {number}\n").into_bytes()
 }
 
 pub fn list_record(record: &Record, from: usize, to: usize) -> Result<Listing, String> {

@@ -8,9 +8,10 @@ use oracle::{compare, listing, questions, record, replay};
 const USAGE: &str = "usage: oracle list FILE [FROM TO]     the Rust's listing of a record (- for standard input)
        oracle example                the record of document 01's example, to standard output
        oracle questions SEED COUNT   compare the port's questions 1 to 11
-       oracle operands SEED COUNT    compare the port's operands and addresses with the Rust's
+       oracle pieces SEED COUNT      compare the port's operands, memory operands and conditions with the Rust's
        oracle listing SEED COUNT     compare the port's listings with the Rust's
        oracle sanity SEED COUNT      generated records against the questions, the Rust and demand 3
+       oracle bench [SET rust|port]  the port's speed against the Rust's; one listing each of a set's records
        oracle record SEED            a generated record, to standard output
        oracle replay COUNT SEED      calls with their answers for the replay program, to standard output";
 
@@ -26,6 +27,12 @@ fn main() -> ExitCode {
         ["replay", count, seed] => number(count).and_then(|n| number(seed).and_then(|s| write(&replay::corpus(n, s as u64)?))),
         #[cfg(mutants)]
         ["witnesses", count] => number(count).and_then(witnesses),
+        #[cfg(port_abi)]
+        ["bench"] => oracle::bench::run(),
+        #[cfg(port_abi)]
+        ["bench", set, "rust"] => oracle::bench::once(set, true),
+        #[cfg(port_abi)]
+        ["bench", set, "port"] => oracle::bench::once(set, false),
         [what, seed, count] => compare(what, seed, count),
         _ => Err(USAGE.to_string()),
     };
@@ -78,13 +85,15 @@ fn read(file: &str) -> Result<Vec<u8>, String> {
     Ok(bytes)
 }
 
-/// The whole range unless one is given; `no N` for a refused record, as the program `listing` does.
+/// What the program `listing` prints, or the lines of a range.
 fn list(file: &str, range: Option<(usize, usize)>) -> Result<bool, String> {
     let bytes = read(file)?;
-    let blocks = if bytes.len() >= record::HEADER { record::Layout::of(&bytes).b } else { 0 };
-    let (from, to) = range.unwrap_or((0, blocks));
-    match questions::first_no(&bytes, from, to) {
-        0 => write(&listing::list(&bytes, from, to).map_err(|e| format!("the Rust panics: {e}"))?.print()),
-        n => write(format!("no {n}\n").as_bytes()),
-    }
+    let printed = match range {
+        None => listing::program(&bytes),
+        Some((from, to)) => match questions::first_no(&bytes, from, to) {
+            0 => listing::list(&bytes, from, to).map(|l| l.print()),
+            n => Ok(listing::refusal(n)),
+        },
+    };
+    write(&printed.map_err(|e| format!("the Rust panics: {e}"))?)
 }

@@ -2,13 +2,15 @@
 //!
 //! Little-endian. First a u32, the number of cases. Then each case, at these offsets:
 //!
-//!       0  u32      length of the record
-//!       4  6 u32    lengths of the lists lent: text, token ends, token kinds, line addresses, line marks, line token ends
-//!      28  u32      the answer: 0, or the number of a refusal
-//!      32  3 u32    sizes: text bytes, tokens, lines; 0 if refused
-//!      44  2 u64    from, to
-//!      60  6 u64    sums of the six lists after the call
-//!     108           the record's bytes
+//! ```text
+//!   0  u32      length of the record
+//!   4  6 u32    lengths of the lists lent: text, token ends, token kinds, line addresses, line marks, line token ends
+//!  28  u32      the answer: 0, or the number of a refusal
+//!  32  3 u32    sizes: text bytes, tokens, lines; 0 if refused
+//!  44  2 u64    from, to
+//!  60  6 u64    sums of the six lists after the call
+//! 108           the record's bytes
+//! ```
 //!
 //! Every list is lent with each byte 0xee. A list's sum is over all that was lent, so over what must not change too: from 1,
 //! for each number x in turn, h becomes (1000003 h + x) mod 4294967311; a u64 counts as two numbers, its low 32 bits first.
@@ -163,7 +165,8 @@ impl Case {
     fn put(&self, out: &mut Vec<u8>) {
         let Case { call, lent, left, no, sizes } = self;
         put_u32(out, call.bytes.len());
-        let lists = [lent.text.len(), lent.ends.len(), lent.kinds.len(), lent.addresses.len(), lent.marks.len(), lent.line_ends.len()];
+        let lists =
+            [lent.text.len(), lent.ends.len(), lent.kinds.len(), lent.addresses.len(), lent.marks.len(), lent.line_ends.len()];
         lists.into_iter().for_each(|n| put_u32(out, n));
         put_u32(out, (*no).into());
         sizes.iter().for_each(|n| put_u32(out, *n));
@@ -180,7 +183,8 @@ fn put_u32(out: &mut Vec<u8>, n: usize) {
     out.extend(u32::try_from(n).expect("sizes are small").to_le_bytes());
 }
 
-fn sums(lists: &Lists) -> [u64; 6] {
+/// The sums of six lists, as the corpus has them.
+pub fn sums(lists: &Lists) -> [u64; 6] {
     [
         sum(lists.text.iter().map(|n| u64::from(*n))),
         sum(lists.ends.iter().map(|n| u64::from(*n))),

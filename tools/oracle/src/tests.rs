@@ -71,6 +71,36 @@ fn worked_example() {
     assert_eq!(String::from_utf8(list(&bytes, 0, 3).unwrap().print()).unwrap(), EXAMPLE);
 }
 
+/// The program's own limits: 65,536 text bytes, 16,384 tokens, and longer input cut.
+#[test]
+fn limits_of_the_program() {
+    let program = |record: &Record| String::from_utf8(crate::listing::program(&record.to_bytes()).unwrap()).unwrap();
+    assert_eq!(program(&example()), EXAMPLE);
+    let cut = crate::listing::program(&[&example().to_bytes()[..], &[0; 70_000]].concat()).unwrap();
+    assert_eq!(cut, b"no 4\n");
+    assert_eq!(crate::listing::program(&[]).unwrap(), b"no 1\n");
+    let literal = imm(5, 0x5000);
+    let pushes = |pushed: Operand, n: usize, calls: usize| {
+        let mut insns = vec![insn(m::PUSH, &[pushed]); n];
+        insns.resize(n + calls, insn(m::JMP, &[MEM]));
+        Record {
+            bits: 32,
+            atlas: vec![Entry { address: 0x5000, kind: 1, text: vec![b'a'; 80] }],
+            spans: vec![(0x5000, 0x5000)],
+            ..one_block(insns)
+        }
+    };
+    // Each line is `return unk_0(A, A, ..);` with n arguments, a literal having 82 bytes.
+    let text = |n: usize, calls: usize| calls * ("return unk_0();".len() + 82 * n + 2 * (n - 1));
+    assert!(text(10, 76) <= 65_536 && text(10, 77) > 65_536);
+    assert!(program(&pushes(literal, 10, 76)).starts_with("lines=76\n"));
+    assert_eq!(program(&pushes(literal, 10, 77)), "no 12\n");
+    let tokens = |n: usize, calls: usize| calls * (4 + 2 * n);
+    assert!(tokens(126, 64) == 16_384 && tokens(126, 65) > 16_384);
+    assert!(program(&pushes(reg(r::EAX), 126, 64)).starts_with("lines=64\n"));
+    assert_eq!(program(&pushes(reg(r::EAX), 126, 65)), "no 13\n");
+}
+
 #[test]
 fn lists_of_the_example() {
     let listing = list(&example().to_bytes(), 0, 3).unwrap();
@@ -178,11 +208,11 @@ fn registers_are_spelled_as_listed() {
 
 #[test]
 fn pieces_of_the_example() {
-    use crate::pieces::{addresses, conditions, operands};
+    use crate::pieces::{conditions, memory, operands};
     let text = |t: &crate::pieces::Tokens| String::from_utf8(t.text.clone()).unwrap();
     let record = example();
     assert_eq!(operands(&record)[2].each_ref().map(text), ["eax", "5", "none", "none", "none"]);
-    assert_eq!(text(&addresses(&record)[0]), "&unk_0");
+    assert_eq!(text(&memory(&record, false)[0]), "&unk_0");
     assert_eq!(
         conditions(&record, 6).iter().map(text).collect::<Vec<_>>(),
         ["__flags_ne", "eax != 0", "__flags_ne", "__flags_ne"]
@@ -220,4 +250,77 @@ fn questions_in_order() {
     assert_eq!(no_after(|r| r.spans[0] = (1, 0)), 10);
     assert_eq!(crate::questions::first_no(&crate::gen::small().to_bytes(), 2, 1), 11);
     assert_eq!(crate::questions::first_no(&crate::gen::small().to_bytes(), 3, 4), 11);
+}
+
+/// A case of the stored replay corpus, read by the offsets that replay.rs lists.
+struct Stored {
+    record: Vec<u8>,
+    lent: [usize; 6],
+    no: u8,
+    sizes: [usize; 3],
+    range: [usize; 2],
+    sums: [u64; 6],
+}
+
+fn stored_corpus() -> Vec<u8> {
+    std::fs::read(concat!(env!("CARGO_MANIFEST_DIR"), "/../../crates/replay/stdin")).unwrap()
+}
+
+fn stored_cases() -> Vec<Stored> {
+    use crate::record::{u32_at, u64_at};
+    let bytes = stored_corpus();
+    let mut at = 4;
+    let mut out = Vec::new();
+    for _ in 0..u32_at(&bytes, 0) {
+        let small = |k: usize| u32_at(&bytes, at + k) as usize;
+        let large = |k: usize| u64_at(&bytes, at + k);
+        out.push(Stored {
+            record: bytes[at + 108..at + 108 + small(0)].to_vec(),
+            lent: std::array::from_fn(|k| small(4 + 4 * k)),
+            no: small(28) as u8,
+            sizes: std::array::from_fn(|k| small(32 + 4 * k)),
+            range: [large(44) as usize, large(52) as usize],
+            sums: std::array::from_fn(|k| large(60 + 8 * k)),
+        });
+        at += 108 + small(0);
+    }
+    assert_eq!(at, bytes.len());
+    out
+}
+
+#[test]
+fn corpus_is_what_the_oracle_writes() {
+    assert!(crate::replay::corpus(crate::replay::COUNT, crate::replay::SEED).unwrap() == stored_corpus());
+}
+
+/// Every answer from 0 to 14 is there, and each case is as the questions and the Rust have it.
+#[test]
+fn corpus_is_right() {
+    let mut seen = [0; 15];
+    for case in stored_cases() {
+        let [from, to] = case.range;
+        seen[case.no as usize] += 1;
+        let no = crate::questions::first_no(&case.record, from, to);
+        assert_eq!(no, if case.no < 12 { case.no } else { 0 });
+        let [x, a, b, c, d, e] = case.lent;
+        let mut lists = crate::compare::Lists::lent(x, [a, b], [c, d, e]);
+        if case.no == 0 {
+            let ours = list(&case.record, from, to).unwrap();
+            assert_eq!(case.sizes, [ours.text.len(), ours.token_ends.len(), ours.lines()]);
+            lists = lists.filled(&ours);
+        }
+        assert_eq!(case.sums, crate::replay::sums(&lists));
+    }
+    assert!(seen.iter().all(|n| *n > 0));
+}
+
+#[cfg(port_abi)]
+#[test]
+fn port_replays_the_corpus() {
+    for case in stored_cases() {
+        let [x, a, b, c, d, e] = case.lent;
+        let lists = crate::compare::Lists::lent(x, [a, b], [c, d, e]);
+        let left = crate::abi::list(&case.record, case.range[0], case.range[1], lists);
+        assert_eq!((left.no, left.sizes, crate::replay::sums(&left.lists)), (case.no, case.sizes, case.sums));
+    }
 }

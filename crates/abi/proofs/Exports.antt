@@ -1,0 +1,25 @@
+-- What the exported function answers and leaves is what its definition says.
+-- The call's answer has the number and the sizes.
+use mathlib.Core.Path.{_≡_, sym, ap, subst, _∙_}
+use mathlib.Core.List.{List, [], _∷_}
+use Prim.Native.Nat.{ℕ}
+use lib.ListN.{set}
+use Rattle.lists.specs.Put.{put}
+use Rattle.lists.specs.PutLaws.{put-cons, put-none}
+use Rattle.pseudo.specs.Called.{numberOf, Called}
+use Rattle.pseudo.specs.declared.call.Answer.{Answer}
+use Rattle.abi.specs.Exported.{sizeList, answered, Exported}
+
+-- stores one behind the other
+pub put-three : (e e₁ e₂ e₃ : List ℕ) (a b c : ℕ) → e₁ ≡ set e 0 a → e₂ ≡ set e₁ 1 b → e₃ ≡ set e₂ 2 c → e₃ ≡ put 0 (a ∷ b ∷ c ∷ []) e
+put-three e e₁ e₂ e₃ a b c p q r = r ∙ rw (q, p, put-cons, put-cons, put-cons, put-none)
+
+pub exported : (s : List ℕ) (from to : ℕ) (x x′ e e′ k k′ a a′ m m′ l l′ z z′ : List ℕ) (g r : Answer) → g ≡ r → Called s from to x x′ e e′ k k′ a a′ m m′ l l′ g
+    → z′ ≡ put 0 (sizeList r) z → Exported s from to x x′ e e′ k k′ a a′ m m′ l l′ z z′ (numberOf r)
+exported s from to x x′ e e′ k k′ a a′ m m′ l l′ z z′ g r h p q =
+    let i : r ≡ answered s from to x e k a m l = sym h ∙ p .answer in
+    record {
+      number = ap numberOf i;
+      lists = subst (λ (g : Answer). Called s from to x x′ e e′ k k′ a a′ m m′ l l′ g) (h ∙ i) p;
+      sizes = q ∙ ap (λ (g : Answer). put 0 (sizeList g) z) i;
+    }

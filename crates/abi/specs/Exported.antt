@@ -1,0 +1,22 @@
+-- What the call promises to callers in other languages: its number, the six lists, and the sizes in a list of their own.
+use Prim.Native.Nat.{ℕ}
+use mathlib.Core.List.{List, [], _∷_}
+use mathlib.Core.Path.{_≡_}
+use Rattle.lists.specs.Put.{put}
+use Rattle.pseudo.specs.Called.{answerFor, numberOf, roomsOf, sizes, callNo, Called}
+use Rattle.pseudo.specs.declared.call.Answer.{Answer}
+use Rattle.pseudo.specs.declared.call.Answer.the-variants.{Listed, No}
+
+-- "with a number all sizes are zero"
+abbrev pub sizeList : Answer → List ℕ
+sizeList (Listed z) = z .text ∷ z .tokens ∷ z .lines ∷ []
+sizeList (No n) = 0 ∷ 0 ∷ 0 ∷ []
+
+module _ (s : List ℕ) (from to : ℕ) where
+  abbrev pub answered : (x e k a m l : List ℕ) → Answer
+  answered x e k a m l = answerFor (sizes s from to) (callNo s from to (roomsOf x e k a m l))
+
+  pub record Exported (x x′ e e′ k k′ a a′ m m′ l l′ z z′ : List ℕ) (r : ℕ) : Type 0 where
+    pub number : r ≡ numberOf (answered x e k a m l)
+    pub lists : Called s from to x x′ e e′ k k′ a a′ m m′ l l′ (answered x e k a m l)
+    pub sizes : z′ ≡ put 0 (sizeList (answered x e k a m l)) z

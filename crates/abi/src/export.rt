@@ -1,0 +1,49 @@
+// The call over numbers and lists, as C has them.
+use lists::stores::store_u64;
+use pseudo::call::Answer;
+use pseudo::call::list;
+ghost use mathlib.Core.List.{[], _∷_};
+ghost use mathlib.Core.Path.{_≡_};
+ghost use Rattle.lists.specs.Put.{put};
+ghost use Rattle.abi.specs.Exported.{Exported};
+
+// The three sizes from the start of the list on.
+fn put_sizes(sizes: &mut [u64], text: u64, tokens: u64, lines: u64)
+    ensures { λ _. ⌜ now (sizes .exit) ≡ put 0 (text ∷ tokens ∷ lines ∷ []) (now (sizes .entry)) ⌝ }
+{
+    store_u64(sizes, 0, text);
+    store_u64(sizes, 1, tokens);
+    store_u64(sizes, 2, lines);
+}
+
+// Lists the blocks from `from` up to `to` of a record: answers 0, or the number of the first question that gets a no. Nothing is
+// demanded of the caller.
+#[no_mangle]
+pub extern "C" fn cakirotu_list(
+    rec: &[u8],
+    from: usize,
+    to: usize,
+    text: &mut [u8],
+    ends: &mut [u32],
+    kinds: &mut [u8],
+    addresses: &mut [u64],
+    marks: &mut [u16],
+    lines: &mut [u32],
+    sizes: &mut [u64],
+) -> u8
+    ensures { λ r. ⌜ Exported (now (rec .entry)) from to
+        (now (text .entry)) (now (text .exit)) (now (ends .entry)) (now (ends .exit)) (now (kinds .entry)) (now (kinds .exit))
+        (now (addresses .entry)) (now (addresses .exit)) (now (marks .entry)) (now (marks .exit)) (now (lines .entry)) (now (lines .exit))
+        (now (sizes .entry)) (now (sizes .exit)) r ⌝ }
+{
+    match list(rec, from, to, text, ends, kinds, addresses, marks, lines) {
+        Answer::Listed(z) => {
+            put_sizes(sizes, z.text as u64, z.tokens as u64, z.lines as u64);
+            0
+        }
+        Answer::No(n) => {
+            put_sizes(sizes, 0, 0, 0);
+            n
+        }
+    }
+}

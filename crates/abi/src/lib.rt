@@ -1,0 +1,2 @@
+// The call for callers in other languages.
+pub mod export;

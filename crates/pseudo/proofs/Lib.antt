@@ -1,0 +1,4 @@
+pub mod Marking
+pub mod Listing
+pub mod Answers
+pub mod Calls

@@ -1,0 +1,72 @@
+-- `list` meets its contract.
+-- By what the questions before 12 answer.
+use mathlib.Core.Path.{sym, _∙_}
+use Rattle.pseudo.proofs.Calls.{accepted, ends-small, called-no}
+use borrow.Author.Needs.{needs}
+use Rattle.pseudo.proofs.call.list.Statement.{statement}
+use Rattle.pseudo.proofs.call.list.Tie as tie
+
+record-requires : tie.Need-record-requires
+record-requires c κs = search needs
+
+enum-known-n : tie.Need-enum-known-n
+enum-known-n c = search needs
+
+enum-known-h : tie.Need-enum-known-h
+enum-known-h c = search needs
+
+cast-list-accepted : tie.Need-cast-list-accepted
+cast-list-accepted c =
+    let yes = accepted ((c .before .before .before .before .before .before .before .before .before .before .before .before .before .before .before .before .before .args) .rec .now) ((c .before .before .before .before .before .before .before .before .before .before .before .before .before .before .before .before .before .args) .from) ((c .before .before .before .before .before .before .before .before .before .before .before .before .before .before .before .before .before .args) .to) _ (sym ((c .before .before .before .before .before .before .before .h) .given .1) ∙ (c .before .before .before .before .before .before .before .before .before .«record») .ensures) in
+    record { fits = ends-small ((c .before .before .before .before .before .before .before .before .before .before .before .before .before .before .before .before .before .args) .rec .now) ((c .before .before .before .before .before .before .before .before .before .before .before .before .before .before .before .before .before .args) .from) ((c .before .before .before .before .before .before .before .before .before .before .before .before .before .before .before .before .before .args) .to) _ yes .0 }
+
+cast-list-accepted-2 : tie.Need-cast-list-accepted-2
+cast-list-accepted-2 c =
+    let yes = accepted ((c .before .before .before .before .before .before .before .before .before .before .before .before .before .before .before .before .before .args) .rec .now) ((c .before .before .before .before .before .before .before .before .before .before .before .before .before .before .before .before .before .args) .from) ((c .before .before .before .before .before .before .before .before .before .before .before .before .before .before .before .before .before .args) .to) _ (sym ((c .before .before .before .before .before .before .before .h) .given .1) ∙ (c .before .before .before .before .before .before .before .before .before .«record») .ensures) in
+    record { fits = ends-small ((c .before .before .before .before .before .before .before .before .before .before .before .before .before .before .before .before .before .args) .rec .now) ((c .before .before .before .before .before .before .before .before .before .before .before .before .before .before .before .before .before .args) .from) ((c .before .before .before .before .before .before .before .before .before .before .before .before .before .before .before .before .before .args) .to) _ yes .1 }
+
+list-accepted-requires : tie.Need-list-accepted-requires
+list-accepted-requires c κs = accepted ((c .before .before .before .before .before .before .before .before .before .before .before .before .before .before .before .before .before .args) .rec .now) ((c .before .before .before .before .before .before .before .before .before .before .before .before .before .before .before .before .before .args) .from) ((c .before .before .before .before .before .before .before .before .before .before .before .before .before .before .before .before .before .args) .to) _ (sym ((c .before .before .before .before .before .before .before .h) .given .1) ∙ (c .before .before .before .before .before .before .before .before .before .«record») .ensures)
+
+returns : tie.Need-returns
+returns c = called-no ((c .before .before .before .before .before .before .before .before .before .before .before .args) .rec .now) ((c .before .before .before .before .before .before .before .before .before .before .before .args) .from) ((c .before .before .before .before .before .before .before .before .before .before .before .args) .to) _ _ _ _ _ _ _ (sym ((c .before .n) .given .1) ∙ (c .before .before .before .«record») .ensures)
+
+same-length : tie.Need-same-length
+same-length c = search needs
+
+same-length-2 : tie.Need-same-length-2
+same-length-2 c = search needs
+
+same-length-3 : tie.Need-same-length-3
+same-length-3 c = search needs
+
+same-length-4 : tie.Need-same-length-4
+same-length-4 c = search needs
+
+same-length-5 : tie.Need-same-length-5
+same-length-5 c = search needs
+
+same-length-6 : tie.Need-same-length-6
+same-length-6 c = search needs
+
+returns-2 : tie.Need-returns-2
+returns-2 c = search needs
+
+pub list-spec : {M : Type 1} → statement M
+list-spec =
+    tie.close
+    (tie.spec
+    record-requires
+    enum-known-n
+    enum-known-h
+    cast-list-accepted
+    cast-list-accepted-2
+    list-accepted-requires
+    returns
+    same-length
+    same-length-2
+    same-length-3
+    same-length-4
+    same-length-5
+    same-length-6
+    returns-2)

@@ -1,0 +1,61 @@
+-- What the questions before 12 see to, each a law of its own, of a record and range for which all got a yes.
+-- A stage that answers 0 lets the later ones answer, and a question that was passed got a yes.
+use mathlib.Core.Path.{_≡_, refl}
+use mathlib.Core.Bool.{Bool, true, false, _&&_}
+use mathlib.Core.List.{List}
+use Prim.Native.Nat.{ℕ, zero, suc, _≤_}
+use native.Mathlib.Omega.{arith}
+use borrow.Author.Tests.{leb-true}
+use lib.Dec.{leb}
+use Rattle.record.specs.declared.header.Header.{Header}
+use Rattle.record.specs.Header.{headerOf, headerFits, fieldsOk, limitsOk}
+use Rattle.record.specs.Layout.{lengthOk, marksOf}
+use Rattle.record.specs.Blocks.{marksOk}
+use Rattle.record.specs.Asked.{ask, orElse, sizesNo, marksAsked, startsAsked, edgeKindsAsked, bodiesAsked, atlasAsked, spansAsked, blocksNo, contentsNo, rangeNo, firstNo}
+
+pub both-yes : (a b : Bool) → (a && b) ≡ true → (a ≡ true) × (b ≡ true)
+both-yes true true h = (refl, refl)
+both-yes true false h = (refl, h)
+both-yes false b h = let z : false ≡ true = h in (z, cc)
+
+pub later : (a b : ℕ) → orElse a b ≡ 0 → (a ≡ 0) × (b ≡ 0)
+later zero b h = (refl, h)
+later (suc n) b h = absurd (omega arith)
+
+pub passed : (n : ℕ) (q : Bool) (l : ℕ) → ask (suc n) q l ≡ 0 → (q ≡ true) × (l ≡ 0)
+passed n true l h = (refl, h)
+passed n false l h = absurd (omega arith)
+
+module _ (s : List ℕ) (from to : ℕ) (yes : firstNo s from to ≡ 0) where
+  abbrev h : Header
+  h = headerOf s
+
+  stages : (sizesNo s ≡ 0) × (blocksNo h s ≡ 0) × (contentsNo h s ≡ 0) × (rangeNo h from to ≡ 0)
+  unfolding firstNo
+  stages =
+      let a = later (sizesNo s) _ yes in
+      let b = later (blocksNo h s) _ (a .1) in
+      let d = later (contentsNo h s) (rangeNo h from to) (b .1) in
+      (a .0, b .0, d .0, d .1)
+
+  -- question 3
+  pub yes-limits : limitsOk h ≡ true
+  unfolding sizesNo
+  yes-limits = passed 2 (limitsOk h) (ask 4 (lengthOk h s) 0) (passed 1 (fieldsOk h) _ (passed 0 (headerFits s) _ (stages .0) .1) .1) .0
+
+  -- question 5
+  pub yes-marks : marksOk (marksOf h s) (h .blocks) (h .instructions) (h .edges) ≡ true
+  unfolding blocksNo marksAsked
+  yes-marks = passed 4 _ (ask 6 (startsAsked h s) (ask 7 (edgeKindsAsked h s) 0)) (stages .1) .0
+
+  -- question 9
+  pub yes-atlas : atlasAsked h s ≡ true
+  unfolding contentsNo
+  yes-atlas = passed 8 (atlasAsked h s) (ask 10 (spansAsked h s) 0) (passed 7 (bodiesAsked h s) _ (stages .2) .1) .0
+
+  -- question 11
+  pub yes-range : (from ≤ to) × (to ≤ h .blocks)
+  unfolding rangeNo
+  yes-range =
+      let q = both-yes (leb from to) (leb to (h .blocks)) (passed 10 (leb from to && leb to (h .blocks)) 0 (stages .3) .0) in
+      (leb-true _ _ (q .0), leb-true _ _ (q .1))
