@@ -6,6 +6,7 @@ use std::path::PathBuf;
 use crate::damage::{self, Call};
 use crate::demand3;
 use crate::gen;
+use crate::lines::Forms;
 use crate::listing;
 use crate::pieces::{self, Piece};
 use crate::questions;
@@ -17,7 +18,7 @@ pub type Comparison = fn(u64, usize) -> Result<bool, String>;
 
 /// The comparisons by name. `tools/compare` has the same names, with the library that each needs.
 pub const COMPARISONS: &[(&str, Comparison)] =
-    &[("questions", questions), ("pieces", pieces), ("listing", whole), ("sanity", sanity)];
+    &[("questions", questions), ("pieces", pieces), ("lines", lines), ("listing", whole), ("sanity", sanity)];
 
 /// Calls made from each valid record, itself included.
 const CALLS_A_RECORD: usize = 8;
@@ -201,6 +202,28 @@ pub fn pieces(seed: u64, count: usize) -> Result<bool, String> {
         }
     }
     println!("  {instructions} instructions, {} distinct forms", forms.len());
+    Ok(tally.end())
+}
+
+/// Instruction lines of records of one block: every list of the port against the Rust's `emit_insns`, until so many
+/// instructions were seen.
+pub fn lines(seed: u64, count: usize) -> Result<bool, String> {
+    let port = port::list()?;
+    let mut rng = Rng::new(seed);
+    let mut tally = Tally::new("lines");
+    let mut forms = Forms::default();
+    while forms.instructions() < count {
+        let record = gen::one_block(&mut rng);
+        let call = Call { bytes: record.to_bytes(), from: 0, to: 1 };
+        let ours = listing::list_insns(&record).map_err(|e| format!("the Rust panics: {e}"))?;
+        forms.add(&record, &ours);
+        tally.compared += 1;
+        let (x, k, l) = (ours.text.len(), ours.token_ends.len(), ours.lines());
+        if let Err(why) = accepted(&call, port, Lists::lent(x, [k, k], [l, l, l]), &ours) {
+            tally.differs(&call, || why)?;
+        }
+    }
+    forms.print()?;
     Ok(tally.end())
 }
 

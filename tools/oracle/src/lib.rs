@@ -5,6 +5,7 @@ pub mod compare;
 pub mod damage;
 pub mod demand3;
 pub mod gen;
+pub mod lines;
 pub mod listing;
 #[cfg(mutants)]
 pub mod mutants;

@@ -9,6 +9,7 @@ const USAGE: &str = "usage: oracle list FILE [FROM TO]     the Rust's listing of
        oracle example                the record of document 01's example, to standard output
        oracle questions SEED COUNT   compare the port's questions 1 to 11
        oracle pieces SEED COUNT      compare the port's operands, memory operands and conditions with the Rust's
+       oracle lines SEED COUNT       compare the port's instruction lines with the Rust's
        oracle listing SEED COUNT     compare the port's listings with the Rust's
        oracle sanity SEED COUNT      generated records against the questions, the Rust and demand 3
        oracle bench [SET rust|port]  the port's speed against the Rust's; one listing each of a set's records

@@ -5,8 +5,8 @@ use std::collections::BTreeSet;
 
 use crate::compare::listing_call;
 use crate::damage::Call;
-use crate::emitter::{self, PseudoLine};
-use crate::listing::{self, Run};
+use crate::emitter::PseudoLine;
+use crate::listing;
 use crate::questions;
 use crate::record::Record;
 use crate::replay;
@@ -17,7 +17,7 @@ pub struct Mutant {
     function: &'static str,
     /// Why no record tells the mutant from the Rust; empty if one must.
     equivalent: &'static str,
-    run: Run,
+    run: fn(&Record, usize, usize) -> (Vec<PseudoLine>, u64),
 }
 
 /// A mutant's lines, as lines of the emitter.
@@ -79,9 +79,9 @@ impl Mutant {
 
 /// Tries the mutants that are left on range `n`.
 fn notice(record: &Record, from: usize, to: usize, n: usize, noticed: &mut [Option<usize>]) -> Result<(), String> {
-    let ours = listing::list_by(emitter::run, record, from, to).map_err(|e| format!("the Rust panics: {e}"))?;
+    let ours = listing::list_record(record, from, to).map_err(|e| format!("the Rust panics: {e}"))?;
     for (mutant, at) in MUTANTS.iter().zip(noticed).filter(|(_, at)| at.is_none()) {
-        let same = listing::list_by(mutant.run, record, from, to).is_ok_and(|l| ours.difference(&l).is_none());
+        let same = listing::lines_of(record, || (mutant.run)(record, from, to)).is_ok_and(|l| ours.difference(&l).is_none());
         *at = (!same).then_some(n);
     }
     Ok(())
