@@ -21,7 +21,7 @@ use crate::damage::{self, Call};
 use crate::gen;
 use crate::listing::{self, Listing};
 use crate::questions;
-use crate::record::{self, Record};
+use crate::record::{self, Layout, Record};
 use crate::rng::Rng;
 
 /// The corpus that is kept.
@@ -66,7 +66,7 @@ pub fn cases(count: usize, seed: u64) -> Result<Vec<Case>, String> {
             _ if n + 1 == count => listed(until_some(|| at_limits(&mut rng))?, 0),
             6 | 7 => refused(&mut rng, (1 + n / 5 % 11) as u8),
             8 => too_short(&mut rng, n / 10 % 8),
-            _ => listed(witnesses.next().unwrap_or_else(|| small_call(&mut rng, SMALL)), n),
+            _ => listed(witnesses.next().unwrap_or_else(|| usual_call(&mut rng, n)), n),
         })
         .collect()
 }
@@ -93,6 +93,18 @@ fn at_limits(rng: &mut Rng) -> Option<Call> {
     let ours = listing::list(&call.bytes, call.from, call.to).ok()?;
     let sizes = [call.bytes.len(), ours.text.len(), ours.token_ends.len(), ours.lines()];
     sizes.iter().zip(HOLDS).all(|(size, most)| *size <= most).then_some(call)
+}
+
+/// A small valid call with some lines, every third one of a part of its record; now and then as it comes.
+fn usual_call(rng: &mut Rng, n: usize) -> Call {
+    loop {
+        let call = small_call(rng, SMALL);
+        let is_part = call.to - call.from < Layout::of(&call.bytes).b;
+        let lines = sizes_of(&call).map_or(0, |(_, sizes)| sizes[2]);
+        if n % 40 == 0 || lines > 2 && (is_part || n % 3 > 0) {
+            return call;
+        }
+    }
 }
 
 /// A valid call with at most so many bytes.

@@ -303,6 +303,7 @@ fn corpus_is_right() {
         let no = crate::questions::first_no(&case.record, from, to);
         assert_eq!(no, if case.no < 12 { case.no } else { 0 });
         let [x, a, b, c, d, e] = case.lent;
+        assert!(case.record.len() <= 65_536 && x <= 65_536 && a.max(b) <= 16_384 && c.max(d).max(e) <= 900);
         let mut lists = crate::compare::Lists::lent(x, [a, b], [c, d, e]);
         if case.no == 0 {
             let ours = list(&case.record, from, to).unwrap();
