@@ -234,8 +234,7 @@ pub fn whole(seed: u64, count: usize) -> Result<bool, String> {
     let mut tally = Tally::new("listing");
     let mut seen = Seen::default();
     for n in 0..count {
-        let valid = damage::valid_call(&mut rng);
-        let call = if n % 8 == 7 { damage::damaged(&mut rng, &valid) } else { valid };
+        let call = listing_call(&mut rng, n);
         tally.compared += 1;
         if let Err(why) = lists_alike(&call, port, n, &mut seen) {
             tally.differs(&call, || why)?;
@@ -243,6 +242,16 @@ pub fn whole(seed: u64, count: usize) -> Result<bool, String> {
     }
     seen.print();
     Ok(tally.end())
+}
+
+/// Call `n` of the listing comparison: valid, and now and then damaged.
+pub fn listing_call(rng: &mut Rng, n: usize) -> Call {
+    let valid = damage::valid_call(rng);
+    if n % 8 == 7 {
+        damage::damaged(rng, &valid)
+    } else {
+        valid
+    }
 }
 
 /// What a call of the port left: the answer, the sizes, and the six lists whole.
@@ -265,7 +274,7 @@ pub struct Lists {
 
 impl Lists {
     /// Lists of these lengths, filled with something that no listing writes throughout.
-    fn lent(text: usize, tokens: [usize; 2], lines: [usize; 3]) -> Lists {
+    pub fn lent(text: usize, tokens: [usize; 2], lines: [usize; 3]) -> Lists {
         Lists {
             text: vec![0xee; text],
             ends: vec![0xeeee_eeee; tokens[0]],
@@ -274,6 +283,18 @@ impl Lists {
             marks: vec![0xeeee; lines[1]],
             line_ends: vec![0xeeee_eeee; lines[2]],
         }
+    }
+
+    /// The lists as an accepted call leaves them: the Rust's, and what lies past it as it was lent.
+    pub fn filled(mut self, ours: &listing::Listing) -> Lists {
+        let (x, k, l) = (ours.text.len(), ours.token_ends.len(), ours.lines());
+        self.text[..x].copy_from_slice(&ours.text);
+        self.ends[..k].copy_from_slice(&ours.token_ends);
+        self.kinds[..k].copy_from_slice(&ours.token_kinds);
+        self.addresses[..l].copy_from_slice(&ours.line_addresses);
+        self.marks[..l].copy_from_slice(&ours.line_marks);
+        self.line_ends[..l].copy_from_slice(&ours.line_ends);
+        self
     }
 }
 
@@ -314,20 +335,14 @@ fn refused(call: &Call, port: port::List, lent: Lists, no: u8) -> Result<(), Str
     Ok(())
 }
 
-/// A listing: the sizes, each list filled with the Rust's, and what lies past it as it was lent.
+/// A listing: the sizes, and the lists as an accepted call leaves them.
 fn accepted(call: &Call, port: port::List, lent: Lists, ours: &listing::Listing) -> Result<(), String> {
     let left = port(&call.bytes, call.from, call.to, lent.clone());
     let sizes = [ours.text.len(), ours.token_ends.len(), ours.lines()];
     if left.no != 0 || left.sizes != sizes {
         return Err(format!("the Rust lists {sizes:?}, the port says {} with sizes {:?}", left.no, left.sizes));
     }
-    let mut want = lent;
-    want.text[..sizes[0]].copy_from_slice(&ours.text);
-    want.ends[..sizes[1]].copy_from_slice(&ours.token_ends);
-    want.kinds[..sizes[1]].copy_from_slice(&ours.token_kinds);
-    want.addresses[..sizes[2]].copy_from_slice(&ours.line_addresses);
-    want.marks[..sizes[2]].copy_from_slice(&ours.line_marks);
-    want.line_ends[..sizes[2]].copy_from_slice(&ours.line_ends);
+    let want = lent.filled(ours);
     if left.lists != want {
         return Err(first_unlike(&want, &left.lists));
     }

@@ -71,14 +71,15 @@ pub fn list_insns(record: &Record) -> Result<Listing, String> {
     lines_of(record, || emitter::insns(record))
 }
 
-fn lines_of(record: &Record, run: impl Fn() -> (Vec<PseudoLine>, u64)) -> Result<Listing, String> {
+/// The lists of the lines that the emitter, or a mutant of it, writes.
+pub fn lines_of(record: &Record, run: impl Fn() -> (Vec<PseudoLine>, u64)) -> Result<Listing, String> {
     QUIET.set(true);
-    let run = catch_unwind(AssertUnwindSafe(run));
+    let done = catch_unwind(AssertUnwindSafe(|| {
+        let (lines, tag) = run();
+        lists(record, &lines, tag)
+    }));
     QUIET.set(false);
-    match run {
-        Ok((lines, tag)) => Ok(lists(record, &lines, tag)),
-        Err(e) => Err(message(e)),
-    }
+    done.map_err(message)
 }
 
 thread_local! {
