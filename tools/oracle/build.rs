@@ -1,5 +1,7 @@
-//! Copies the emitter's items out of the Rust source, by name and unchanged, into OUT_DIR, and
-//! links the static libraries of the port that are there.
+//! Copies the emitter's items out of the Rust source, by name and unchanged, into OUT_DIR, writes
+//! mutants of them if asked to, and links the static libraries of the port that are there.
+
+mod mutate;
 
 use std::env;
 use std::fs;
@@ -46,11 +48,13 @@ const PORTS: &[(&str, &str)] = &[("record", "port_record"), ("line", "port_line"
 
 fn main() {
     println!("cargo:rerun-if-changed=build.rs");
-    copy_items();
+    println!("cargo:rerun-if-changed=mutate.rs");
+    let items = copy_items();
+    write_mutants(&items);
     link_ports();
 }
 
-fn copy_items() {
+fn copy_items() -> String {
     println!("cargo:rerun-if-env-changed=PARANOIA_SRC");
     let file = source_file();
     println!("cargo:rerun-if-changed={}", file.display());
@@ -63,8 +67,28 @@ fn copy_items() {
         }
         out.push('\n');
     }
-    let to = PathBuf::from(env::var_os("OUT_DIR").unwrap()).join("pseudo.rs");
-    fs::write(&to, out).unwrap_or_else(|e| stop(&format!("cannot write {}: {e}", to.display())));
+    write_out("pseudo.rs", &out);
+    out
+}
+
+fn write_out(name: &str, text: &str) {
+    let to = PathBuf::from(env::var_os("OUT_DIR").unwrap()).join(name);
+    fs::write(&to, text).unwrap_or_else(|e| stop(&format!("cannot write {}: {e}", to.display())));
+}
+
+/// MUTANTS names the list of mutants; without it none is built.
+fn write_mutants(items: &str) {
+    println!("cargo:rerun-if-env-changed=MUTANTS");
+    println!("cargo:rustc-check-cfg=cfg(mutants)");
+    let Some(list) = env::var_os("MUTANTS").map(PathBuf::from) else { return };
+    let emitter = Path::new("src/emitter.rs");
+    let read = |file: &Path| {
+        println!("cargo:rerun-if-changed={}", file.display());
+        fs::read_to_string(file).unwrap_or_else(|e| stop(&format!("cannot read {}: {e}", file.display())))
+    };
+    let modules = mutate::modules(&read(emitter), items, &read(&list));
+    write_out("mutants.rs", &modules.unwrap_or_else(|why| stop(&format!("{}: {why}", list.display()))));
+    println!("cargo:rustc-cfg=mutants");
 }
 
 fn stop(why: &str) -> ! {

@@ -1,3 +1,4 @@
 pub mod Listed
 pub mod Marks
 pub mod Called
+pub mod Demand

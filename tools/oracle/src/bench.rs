@@ -68,11 +68,7 @@ fn sets() -> [Set; 3] {
     worst.extend(many(4, gen::deepest));
     worst.extend(many(4, gen::pushes));
     worst.extend(many(4, gen::named));
-    [
-        Set { name: "straight", records: straight },
-        Set { name: "flow", records: flow },
-        Set { name: "worst", records: worst },
-    ]
+    [Set { name: "straight", records: straight }, Set { name: "flow", records: flow }, Set { name: "worst", records: worst }]
 }
 
 /// The best of several runs, since what disturbs a run only makes it longer.
@@ -113,7 +109,16 @@ fn print_set(set: &Set, times: &[Times]) -> f64 {
     if set.name == "worst" {
         for (r, t) in set.records.iter().zip(times) {
             let l = r.layout();
-            println!("  B {:3} I {:3} E {:3} A {:3}: Rust {:8.1}, port {:8.1}, ratio {:.1}", l.b, l.i, l.e, l.a, t.rust, t.port, t.ratio());
+            println!(
+                "  B {:3} I {:3} E {:3} A {:3}: Rust {:8.1}, port {:8.1}, ratio {:.1}",
+                l.b,
+                l.i,
+                l.e,
+                l.a,
+                t.rust,
+                t.port,
+                t.ratio()
+            );
         }
         return least;
     }

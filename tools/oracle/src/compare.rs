@@ -6,6 +6,7 @@ use std::path::PathBuf;
 use crate::damage::{self, Call};
 use crate::demand3;
 use crate::gen;
+use crate::lines::Forms;
 use crate::listing;
 use crate::pieces::{self, Piece};
 use crate::questions;
@@ -17,7 +18,7 @@ pub type Comparison = fn(u64, usize) -> Result<bool, String>;
 
 /// The comparisons by name. `tools/compare` has the same names, with the library that each needs.
 pub const COMPARISONS: &[(&str, Comparison)] =
-    &[("questions", questions), ("pieces", pieces), ("listing", whole), ("sanity", sanity)];
+    &[("questions", questions), ("pieces", pieces), ("lines", lines), ("listing", whole), ("sanity", sanity)];
 
 /// Calls made from each valid record, itself included.
 const CALLS_A_RECORD: usize = 8;
@@ -204,6 +205,28 @@ pub fn pieces(seed: u64, count: usize) -> Result<bool, String> {
     Ok(tally.end())
 }
 
+/// Instruction lines of records of one block: every list of the port against the Rust's `emit_insns`, until so many
+/// instructions were seen.
+pub fn lines(seed: u64, count: usize) -> Result<bool, String> {
+    let port = port::list()?;
+    let mut rng = Rng::new(seed);
+    let mut tally = Tally::new("lines");
+    let mut forms = Forms::default();
+    while forms.instructions() < count {
+        let record = gen::one_block(&mut rng);
+        let call = Call { bytes: record.to_bytes(), from: 0, to: 1 };
+        let ours = listing::list_insns(&record).map_err(|e| format!("the Rust panics: {e}"))?;
+        forms.add(&record, &ours);
+        tally.compared += 1;
+        let (x, k, l) = (ours.text.len(), ours.token_ends.len(), ours.lines());
+        if let Err(why) = accepted(&call, port, Lists::lent(x, [k, k], [l, l, l]), &ours) {
+            tally.differs(&call, || why)?;
+        }
+    }
+    forms.print()?;
+    Ok(tally.end())
+}
+
 /// Whole listings: every list of the port against the Rust's, and refusals of lists one too short.
 pub fn whole(seed: u64, count: usize) -> Result<bool, String> {
     let port = port::list()?;
@@ -211,8 +234,7 @@ pub fn whole(seed: u64, count: usize) -> Result<bool, String> {
     let mut tally = Tally::new("listing");
     let mut seen = Seen::default();
     for n in 0..count {
-        let valid = damage::valid_call(&mut rng);
-        let call = if n % 8 == 7 { damage::damaged(&mut rng, &valid) } else { valid };
+        let call = listing_call(&mut rng, n);
         tally.compared += 1;
         if let Err(why) = lists_alike(&call, port, n, &mut seen) {
             tally.differs(&call, || why)?;
@@ -220,6 +242,16 @@ pub fn whole(seed: u64, count: usize) -> Result<bool, String> {
     }
     seen.print();
     Ok(tally.end())
+}
+
+/// Call `n` of the listing comparison: valid, and now and then damaged.
+pub fn listing_call(rng: &mut Rng, n: usize) -> Call {
+    let valid = damage::valid_call(rng);
+    if n % 8 == 7 {
+        damage::damaged(rng, &valid)
+    } else {
+        valid
+    }
 }
 
 /// What a call of the port left: the answer, the sizes, and the six lists whole.
@@ -242,7 +274,7 @@ pub struct Lists {
 
 impl Lists {
     /// Lists of these lengths, filled with something that no listing writes throughout.
-    fn lent(text: usize, tokens: [usize; 2], lines: [usize; 3]) -> Lists {
+    pub fn lent(text: usize, tokens: [usize; 2], lines: [usize; 3]) -> Lists {
         Lists {
             text: vec![0xee; text],
             ends: vec![0xeeee_eeee; tokens[0]],
@@ -251,6 +283,18 @@ impl Lists {
             marks: vec![0xeeee; lines[1]],
             line_ends: vec![0xeeee_eeee; lines[2]],
         }
+    }
+
+    /// The lists as an accepted call leaves them: the Rust's, and what lies past it as it was lent.
+    pub fn filled(mut self, ours: &listing::Listing) -> Lists {
+        let (x, k, l) = (ours.text.len(), ours.token_ends.len(), ours.lines());
+        self.text[..x].copy_from_slice(&ours.text);
+        self.ends[..k].copy_from_slice(&ours.token_ends);
+        self.kinds[..k].copy_from_slice(&ours.token_kinds);
+        self.addresses[..l].copy_from_slice(&ours.line_addresses);
+        self.marks[..l].copy_from_slice(&ours.line_marks);
+        self.line_ends[..l].copy_from_slice(&ours.line_ends);
+        self
     }
 }
 
@@ -291,20 +335,14 @@ fn refused(call: &Call, port: port::List, lent: Lists, no: u8) -> Result<(), Str
     Ok(())
 }
 
-/// A listing: the sizes, each list filled with the Rust's, and what lies past it as it was lent.
+/// A listing: the sizes, and the lists as an accepted call leaves them.
 fn accepted(call: &Call, port: port::List, lent: Lists, ours: &listing::Listing) -> Result<(), String> {
     let left = port(&call.bytes, call.from, call.to, lent.clone());
     let sizes = [ours.text.len(), ours.token_ends.len(), ours.lines()];
     if left.no != 0 || left.sizes != sizes {
         return Err(format!("the Rust lists {sizes:?}, the port says {} with sizes {:?}", left.no, left.sizes));
     }
-    let mut want = lent;
-    want.text[..sizes[0]].copy_from_slice(&ours.text);
-    want.ends[..sizes[1]].copy_from_slice(&ours.token_ends);
-    want.kinds[..sizes[1]].copy_from_slice(&ours.token_kinds);
-    want.addresses[..sizes[2]].copy_from_slice(&ours.line_addresses);
-    want.marks[..sizes[2]].copy_from_slice(&ours.line_marks);
-    want.line_ends[..sizes[2]].copy_from_slice(&ours.line_ends);
+    let want = lent.filled(ours);
     if left.lists != want {
         return Err(first_unlike(&want, &left.lists));
     }

@@ -28,6 +28,17 @@ pub fn run(record: &Record, from: usize, to: usize) -> (Vec<PseudoLine>, u64) {
     (out, tag)
 }
 
+/// The lines of the first block's instructions, without structure.
+pub fn insns(record: &Record) -> (Vec<PseudoLine>, u64) {
+    let tag = free_tag(record);
+    let binary = Binary::new(record);
+    let insns: Vec<Ins> = record.blocks[0].insns.iter().zip(tag..).map(|(i, ip)| Ins::new(i, ip)).collect();
+    let mut ctx = context(record, &binary, tag);
+    let mut out = Vec::new();
+    emit_insns(&mut ctx, &insns, record.indent, &mut out, &HashMap::new(), &[], 0);
+    (out, tag)
+}
+
 /// How long `times` listings of the whole range take, with the Rust's own structures made beforehand.
 pub fn time(record: &Record, times: usize) -> std::time::Duration {
     let binary = Binary::new(record);

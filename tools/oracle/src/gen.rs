@@ -171,6 +171,13 @@ pub fn deepest(rng: &mut Rng) -> Record {
     record
 }
 
+/// One block whose last instruction closes nothing.
+pub fn one_block(rng: &mut Rng) -> Record {
+    let mut record = sized(rng, Size { blocks: (1, 1), insns: 12, atlas: 4, spans: 2 });
+    record.blocks[0].insns.push(Insn { mnemonic: m::NOP, address: 0x7fff_0000, ..Insn::default() });
+    record
+}
+
 /// Straight code: one block of 200 instructions.
 pub fn straight(rng: &mut Rng) -> Record {
     let mut record = sized(rng, Size { blocks: (1, 1), insns: 1, atlas: 8, spans: 3 });

@@ -5,10 +5,14 @@ pub mod compare;
 pub mod damage;
 pub mod demand3;
 pub mod gen;
+pub mod lines;
 pub mod listing;
+#[cfg(mutants)]
+pub mod mutants;
 pub mod pieces;
 pub mod questions;
 pub mod record;
+pub mod replay;
 pub mod rng;
 
 #[cfg(port_abi)]

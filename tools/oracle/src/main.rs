@@ -3,16 +3,18 @@
 use std::io::{Read, Write};
 use std::process::ExitCode;
 
-use oracle::{compare, listing, questions, record};
+use oracle::{compare, listing, questions, record, replay};
 
 const USAGE: &str = "usage: oracle list FILE [FROM TO]     the Rust's listing of a record (- for standard input)
        oracle example                the record of document 01's example, to standard output
        oracle questions SEED COUNT   compare the port's questions 1 to 11
        oracle pieces SEED COUNT      compare the port's operands, memory operands and conditions with the Rust's
+       oracle lines SEED COUNT       compare the port's instruction lines with the Rust's
        oracle listing SEED COUNT     compare the port's listings with the Rust's
        oracle sanity SEED COUNT      generated records against the questions, the Rust and demand 3
        oracle bench [SET rust|port]  the port's speed against the Rust's; one listing each of a set's records
-       oracle record SEED            a generated record, to standard output";
+       oracle record SEED            a generated record, to standard output
+       oracle replay COUNT SEED      calls with their answers for the replay program, to standard output";
 
 fn main() -> ExitCode {
     listing::report_panics_as_answers();
@@ -23,6 +25,9 @@ fn main() -> ExitCode {
         ["list", file, from, to] => number(from).and_then(|f| number(to).and_then(|t| list(file, Some((f, t))))),
         ["example"] => write(&record::example().to_bytes()),
         ["record", seed] => number(seed).and_then(|s| write(&compare::record(s as u64))),
+        ["replay", count, seed] => number(count).and_then(|n| number(seed).and_then(|s| write(&replay::corpus(n, s as u64)?))),
+        #[cfg(mutants)]
+        ["witnesses", count] => number(count).and_then(witnesses),
         #[cfg(port_abi)]
         ["bench"] => oracle::bench::run(),
         #[cfg(port_abi)]
@@ -47,9 +52,23 @@ fn number(word: &str) -> Result<usize, String> {
 }
 
 fn compare(what: &str, seed: &str, count: &str) -> Result<bool, String> {
-    let found = compare::COMPARISONS.iter().find(|(name, _)| *name == what);
-    let (_, run) = found.ok_or_else(|| USAGE.to_string())?;
+    let run = comparison(what).ok_or_else(|| USAGE.to_string())?;
     run(number(seed)? as u64, number(count)?)
+}
+
+/// The seeds for `src/replay/witnesses.txt`.
+#[cfg(mutants)]
+fn witnesses(count: usize) -> Result<bool, String> {
+    let seeds: Vec<String> = oracle::mutants::witnesses(count)?.iter().map(|s| s.to_string()).collect();
+    write(format!("{}\n", seeds.join("\n")).as_bytes())
+}
+
+fn comparison(what: &str) -> Option<compare::Comparison> {
+    #[cfg(mutants)]
+    if what == "mutants" {
+        return Some(oracle::mutants::mutants);
+    }
+    compare::COMPARISONS.iter().find(|(name, _)| *name == what).map(|(_, run)| *run)
 }
 
 fn write(bytes: &[u8]) -> Result<bool, String> {

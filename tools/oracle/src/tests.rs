@@ -251,3 +251,77 @@ fn questions_in_order() {
     assert_eq!(crate::questions::first_no(&crate::gen::small().to_bytes(), 2, 1), 11);
     assert_eq!(crate::questions::first_no(&crate::gen::small().to_bytes(), 3, 4), 11);
 }
+
+/// A case of the stored replay corpus, read by the offsets that replay.rs lists.
+struct Stored {
+    record: Vec<u8>,
+    lent: [usize; 6],
+    no: u8,
+    sizes: [usize; 3],
+    range: [usize; 2],
+    sums: [u64; 6],
+}
+
+fn stored_corpus() -> Vec<u8> {
+    std::fs::read(concat!(env!("CARGO_MANIFEST_DIR"), "/../../crates/replay/stdin")).unwrap()
+}
+
+fn stored_cases() -> Vec<Stored> {
+    use crate::record::{u32_at, u64_at};
+    let bytes = stored_corpus();
+    let mut at = 4;
+    let mut out = Vec::new();
+    for _ in 0..u32_at(&bytes, 0) {
+        let small = |k: usize| u32_at(&bytes, at + k) as usize;
+        let large = |k: usize| u64_at(&bytes, at + k);
+        out.push(Stored {
+            record: bytes[at + 108..at + 108 + small(0)].to_vec(),
+            lent: std::array::from_fn(|k| small(4 + 4 * k)),
+            no: small(28) as u8,
+            sizes: std::array::from_fn(|k| small(32 + 4 * k)),
+            range: [large(44) as usize, large(52) as usize],
+            sums: std::array::from_fn(|k| large(60 + 8 * k)),
+        });
+        at += 108 + small(0);
+    }
+    assert_eq!(at, bytes.len());
+    out
+}
+
+#[test]
+fn corpus_is_what_the_oracle_writes() {
+    assert!(crate::replay::corpus(crate::replay::COUNT, crate::replay::SEED).unwrap() == stored_corpus());
+}
+
+/// Every answer from 0 to 14 is there, and each case is as the questions and the Rust have it.
+#[test]
+fn corpus_is_right() {
+    let mut seen = [0; 15];
+    for case in stored_cases() {
+        let [from, to] = case.range;
+        seen[case.no as usize] += 1;
+        let no = crate::questions::first_no(&case.record, from, to);
+        assert_eq!(no, if case.no < 12 { case.no } else { 0 });
+        let [x, a, b, c, d, e] = case.lent;
+        assert!(case.record.len() <= 65_536 && x <= 65_536 && a.max(b) <= 16_384 && c.max(d).max(e) <= 900);
+        let mut lists = crate::compare::Lists::lent(x, [a, b], [c, d, e]);
+        if case.no == 0 {
+            let ours = list(&case.record, from, to).unwrap();
+            assert_eq!(case.sizes, [ours.text.len(), ours.token_ends.len(), ours.lines()]);
+            lists = lists.filled(&ours);
+        }
+        assert_eq!(case.sums, crate::replay::sums(&lists));
+    }
+    assert!(seen.iter().all(|n| *n > 0));
+}
+
+#[cfg(port_abi)]
+#[test]
+fn port_replays_the_corpus() {
+    for case in stored_cases() {
+        let [x, a, b, c, d, e] = case.lent;
+        let lists = crate::compare::Lists::lent(x, [a, b], [c, d, e]);
+        let left = crate::abi::list(&case.record, case.range[0], case.range[1], lists);
+        assert_eq!((left.no, left.sizes, crate::replay::sums(&left.lists)), (case.no, case.sizes, case.sums));
+    }
+}

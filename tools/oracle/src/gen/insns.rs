@@ -165,11 +165,16 @@ fn constant(rng: &mut Rng, world: &World) -> Insn {
     insn
 }
 
+/// `xor x, x`, and no register beside something else, which reads as no register too.
 fn xor_self(rng: &mut Rng, world: &World) -> Insn {
     let mut insn = two(rng, world, m::XOR, 0);
-    let register = some_register(rng, world);
+    let near_miss = rng.percent(20);
+    let register = if near_miss { r::NONE } else { some_register(rng, world) };
     insn.operands[0] = Operand { kind: kind::REGISTER, register, number: 0 };
     insn.operands[1] = Operand { kind: kind::REGISTER, register, number: 7 };
+    if near_miss {
+        insn.operands[rng.below(2)] = operand(rng, world);
+    }
     insn
 }
 
@@ -250,7 +255,11 @@ pub fn memory(rng: &mut Rng, world: &World) -> Insn {
     }
     insn.scale = rng.pick(&[1, 1, 2, 4, 8]);
     insn.size = rng.pick(&[0, 1, 2, 4, 4, 8, 8, 16, 32, 3, 10, 64, 0x100, 0x104, u16::MAX]);
-    insn.memory = any_number(rng, world);
+    insn.memory = match insn.base != 0 && insn.base == world.frame && rng.percent(15) {
+        // Where a frame's shift crosses zero, or 64 bits hold the sum no more.
+        true => rng.pick(&[0, 8, 0u64.wrapping_sub(8), 1 << 63, (1 << 63) + 0x10, (1 << 63) - 1, (1 << 63) - 0x10]),
+        false => any_number(rng, world),
+    };
     insn
 }
 
