@@ -49,3 +49,15 @@ pub fn put_bytes(out: &mut [u8], s: &[u8]) -> usize
     }
     s.len()
 }
+
+// The numbers of s from the start of the list on.
+pub fn put_u32s(out: &mut [u32], s: &[u32])
+    ensures { λ _. ⌜ now (out .exit) ≡ put 0 (now (s .entry)) (now (out .entry)) ⌝ }
+{
+    let n = within(s.len(), out.len());
+    let mut i = 0;
+    while i < n {
+        out[i] = s[i];
+        i += 1;
+    }
+}

@@ -2,15 +2,11 @@
 -- The invariant: to store the rest of s where the loop stands is to store all of s where it began.
 use borrow.Author.Needs.{needs}
 use mathlib.Core.Path.{_≡_, refl, sym, _∙_}
-use mathlib.Core.List.{List}
-use Prim.Native.Nat.{ℕ, _≤_, _<_, _+_, _-_, min}
-use native.Mathlib.Decide.{decLe}
+use Prim.Native.Nat.{_≤_, _-_}
 use native.Mathlib.Omega.{arith}
-use native.Mathlib.Numerals.{add-one}
-use lib.ListN.{length, drop, set, getD, length-set, drop-of-length-le}
-use lib.Seq.{drop-cons}
+use lib.ListN.{length, drop, length-set}
 use Rattle.lists.specs.Put.{put}
-use Rattle.lists.specs.PutLaws.{put-cons, put-none, put-past}
+use Rattle.lists.proofs.Storing.{step, done}
 use Rattle.lists.proofs.stores.put_bytes.Statement.{statement}
 use Rattle.lists.proofs.stores.put_bytes.Tie as tie
 
@@ -19,17 +15,6 @@ Inv-loop out₀ s n i₀ out i = (i ≤ n) × (length out ≡ length out₀) × 
 
 abbrev μ-loop : tie.MeasureT-loop
 μ-loop out₀ s n i₀ out i = n - i
-
-step : (i : ℕ) (s e : List ℕ) → i < length s → put (i + 1) (drop (i + 1) s) (set e i (getD s i 0)) ≡ put i (drop i s) e
-step i s e h = rw (drop-cons s i 0, put-cons, add-one)
-
--- where the loop ends, nothing is left to store
-done : (i : ℕ) (s e : List ℕ) → min (length s) (length e) ≤ i → put i (drop i s) e ≡ e
-done i s e h =
-    elim (decLe (length s) i) [
-      | yes a ↦ rw (drop-of-length-le s a, put-none)
-      | no b ↦ put-past i (drop i s) e (omega arith)
-    ]
 
 within-requires : tie.Need-within-requires Inv-loop μ-loop
 within-requires c κs = search needs
