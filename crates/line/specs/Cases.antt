@@ -1,5 +1,5 @@
--- Document 01's cases (a) to (i), as rows of one check: the tokens that each prints, joined as the lists hold them.
--- All rows are computed at once from the definitions that the contracts cite. Case (j) is about lines: structure/specs/Worked.
+-- Document 01's cases (a) to (j), as rows of one check: the lines of tokens that each prints, joined as the lists hold them.
+-- All rows are computed at once from the definitions that the contracts cite.
 use mathlib.Core.Path.{_≡_, ap, _∙_}
 use mathlib.Core.Bool.{Bool, true, false}
 use mathlib.Core.List.{List, [], _∷_, _++_, map}
@@ -15,12 +15,12 @@ use Rattle.lists.specs.Ascii.{ascii}
 use Rattle.text.specs.Number.{digit, hexOf, hexText, sign, sizeText, numText}
 use Rattle.text.specs.NumberLaws.{hex-one, hex-more}
 use Rattle.text.specs.Literal.{letter, escape, escapes, opening, closing, literalText}
-use Rattle.tokens.specs.Token.{Token, token, punct, keyword, register}
+use Rattle.tokens.specs.Token.{Token, token, punct, plainText, keyword, register}
 use Rattle.tokens.specs.Words.{words, wordToken, prefixed}
 use Rattle.tokens.specs.Listing.{run, join}
 use Rattle.x86.specs.Registers.{registerNames, registerName}
 use Rattle.x86.specs.Mnemonics.{mnemonicNames, mnemonicName, writesFlags}
-use Rattle.x86.specs.Conditions.{conditionNames, conditionName, operatorText, relationAfterCmp, printsUnsigned}
+use Rattle.x86.specs.Conditions.{conditionNames, conditionName, operatorText, relationAfterCmp, relationAfterOther, printsUnsigned, negate}
 use Rattle.record.specs.declared.header.Header.{Header}
 use Rattle.record.specs.Layout.{bodiesAt}
 use Rattle.record.specs.Atlas.{textStart}
@@ -28,25 +28,35 @@ use Rattle.operand.specs.Names.{entryFrom, entryAt, entryToken, nameOr, inSpan}
 use Rattle.operand.specs.Memory.{slotBase, slotNumber, isSlot, slotToken, displacement, addressExpr, memExpr, memTokens, number}
 use Rattle.operand.specs.Operand.{signedRead, immediateNumber, immediate, opTokens}
 use Rattle.line.specs.Condition.{flagWriter, afterWriter, conditionTokens}
-use Rattle.line.specs.Forms.{Piece}
+use Rattle.record.specs.Blocks.{firstInstruction, firstEdge}
+use Rattle.structure.specs.Flow.{closesLoop, hasEdge, endingIn, singleEntry, escapes as leaves, outsideJump}
+use Rattle.structure.specs.Shape.{shapeAt, lastLoop, lastFrom, regionAt, opensRegion}
+use Rattle.structure.specs.Plan.{rangeLines, rangeGo, plainLines, shownLines, bodyCount, closingLines, loopLines, flatLines, flatBlock, testBlock}
+use Rattle.flow.specs.Silent.{isQuiet, isPrologueNoise, endingOf}
+use Rattle.flow.specs.Rows.{rowsFrom, blockRow, edgeRow, shownRow, blockEnding, blockBranch, placeFrom, placeOf, blockRows, edgeRows, shownRows}
+use Rattle.flow.specs.Planned.{recordPlan}
+use Rattle.line.specs.Arguments.{writtenAfter}
+use Rattle.line.specs.Forms.{Piece, rows, rowOf, insnForm, plainForm, returnsValue}
 use Rattle.line.specs.Forms.Piece.{op, condition}
-use Rattle.line.specs.Print.{pieceTokens}
+use Rattle.line.specs.Print.{pieceTokens, piecesTokens, lineTokens, printed}
 
--- what a case asks: a number, by its sign and size; a piece of the line of instruction i of a record's first block
+-- what a case asks: a number, by its sign and size; a piece of the line of instruction i of a record's first block; a record's lines
 pub data Asked : Type 0 where
   num : Bool → ℕ → Asked
   piece : Header → List ℕ → ℕ → Piece → Asked
+  whole : Header → List ℕ → Asked
 
 pub record Case : Type 0 where
   pub asked : Asked
-  pub expected : List Token
+  pub expected : List (List Token)
 
-abbrev pub tokensOf : Asked → List Token
-tokensOf (num negative n) = number negative n ∷ []
-tokensOf (piece h s i p) = pieceTokens h s (record { at = i; first = 0; range = 0; place = 0; written = 0 }) p
+abbrev pub linesOf : Asked → List (List Token)
+linesOf (num negative n) = (number negative n ∷ []) ∷ []
+linesOf (piece h s i p) = pieceTokens h s (record { at = i; first = 0; range = 0; place = 0; written = 0 }) p ∷ []
+linesOf (whole h s) = printed h s 0 0 (recordPlan h s 0 (h .blocks))
 
 abbrev row : Asked → List Token → Case
-row a ts = record { asked = a; expected = ts }
+row a ts = record { asked = a; expected = ts ∷ [] }
 
 -- n bytes of a number, the lowest first
 abbrev bytes : ℕ → ℕ → List ℕ
@@ -98,6 +108,9 @@ memoryOf base index scale size displacement =
 
 abbrev numeral : String → Token
 numeral t = token 2 (ascii t)
+
+abbrev place : String → Token
+place t = token 4 (ascii t)
 
 abbrev literal : String → Token
 literal t = token 5 (ascii t)
@@ -166,11 +179,27 @@ case-i =
     row (piece h (replicate (bodiesAt h) 0 ++ (b ++ (bytes 8 0x1000 ++ (1 ∷ 1 ∷ ascii "\\")))) 0 (op 0)) (literal "\"\\\\\"" ∷ [])
     ∷ []
 
-pub cases : List Case
-cases = case-a ++ (case-b ++ (case-c ++ (case-d ++ (case-e ++ (case-f ++ (case-g ++ (case-h ++ case-i)))))))
+-- "(j) self-loop: if-goto, no do": one block at 0x1000, dec eax and jne 0x1000 (condition 6), with a True edge to itself and a False one
+abbrev case-j : List Case
+case-j =
+    let h : Header = record { bits = 64; convention = 0; blocks = 1; instructions = 2; edges = 2; atlas = 0; spans = 0; frame = 0; shift = pos 0; shifted = 0; indent = 0; text = 0 } in
+    let dec : List ℕ = body 17 0 1 0 (slot 0 0x40 0 ++ replicate 64 0) in
+    let jne : List ℕ = body 0 6 1 0 (slot 2 0 0x1000 ++ (replicate 40 0 ++ ascii "jne" ++ replicate 21 0)) in
+    let flow : List ℕ = bytes 8 0x1000 ++ (2 ∷ 0 ∷ 2 ∷ 1 ∷ bytes 8 0x1000 ++ (bytes 8 0x1008 ++ (1 ∷ 2 ∷ []))) in
+    record {
+      asked = whole h (replicate 24 0 ++ (flow ++ (replicate 16 0 ++ (dec ++ jne))));
+      expected =
+          (register "eax" ∷ punct "--;" ∷ [])
+          ∷ (keyword "if" ∷ punct " (" ∷ register "eax" ∷ punct " != " ∷ numeral "0" ∷ punct ") " ∷ keyword "goto" ∷ plainText " " ∷ place "loc_1000" ∷ punct ";" ∷ [])
+          ∷ [];
+    }
+    ∷ []
 
-abbrev printed : Case → List Token
-printed c = join (tokensOf (c .asked))
+pub cases : List Case
+cases = case-a ++ (case-b ++ (case-c ++ (case-d ++ (case-e ++ (case-f ++ (case-g ++ (case-h ++ (case-i ++ case-j))))))))
+
+abbrev shown : Case → List (List Token)
+shown c = map join (linesOf (c .asked))
 
 -- a number in hex by as many division steps as it has digits, which computes
 hex : (l : Bool) (k v : ℕ) → v < 16 ^ suc k → hexText l v ≡ hexOf l (suc k) v
@@ -184,8 +213,8 @@ hex l (suc k) v h =
           (hex-more l v (omega arith) ∙ ap (λ (t : List ℕ). t ++ (digit l (v % 16) ∷ [])) (hex l k (v / 16) (div-lt-iff-lt-mul (omega arith) .1 (rw pow-suc at h))))
     ]
 
-pub all-print : map printed cases ≡ map (λ (c : Case). c .expected) cases
-unfolding cases join run pieceTokens opTokens immediate immediateNumber signedRead memTokens memExpr addressExpr displacement slotToken isSlot slotNumber slotBase nameOr entryAt entryFrom entryToken textStart inSpan prefixed wordToken words numText sign sizeText hexOf digit registerName registerNames literalText opening closing escapes escape letter conditionTokens flagWriter afterWriter writesFlags mnemonicName mnemonicNames conditionName conditionNames operatorText relationAfterCmp printsUnsigned
+pub all-print : map shown cases ≡ map (λ (c : Case). c .expected) cases
+unfolding cases join run printed lineTokens piecesTokens rowOf rows insnForm plainForm returnsValue recordPlan blockRows edgeRows edgeRow shownRows shownRow rowsFrom blockRow firstInstruction firstEdge blockEnding blockBranch endingOf placeOf placeFrom isQuiet isPrologueNoise rangeLines rangeGo shapeAt lastLoop lastFrom closesLoop hasEdge endingIn regionAt opensRegion singleEntry leaves outsideJump plainLines shownLines bodyCount closingLines loopLines flatLines flatBlock testBlock negate relationAfterOther writtenAfter pieceTokens opTokens immediate immediateNumber signedRead memTokens memExpr addressExpr displacement slotToken isSlot slotNumber slotBase nameOr entryAt entryFrom entryToken textStart inSpan prefixed wordToken words numText sign sizeText hexOf digit registerName registerNames literalText opening closing escapes escape letter conditionTokens flagWriter afterWriter writesFlags mnemonicName mnemonicNames conditionName conditionNames operatorText relationAfterCmp printsUnsigned
 all-print =
     rw (
       hex false 0 10 (omega arith),
@@ -195,4 +224,5 @@ all-print =
       hex true 7 0x20 (omega arith),
       hex false 7 0x30 (omega arith),
       hex true 7 0xFFFFFFF8 (omega arith),
+      hex true 7 0x1000 (omega arith),
     )
