@@ -83,6 +83,10 @@ unfolding printed
 printed-length h s range mask [] = refl
 printed-length h s range mask (l ∷ ls) = ap suc (printed-length h s range (maskAfter h s mask (l .what) (l .at)) ls)
 
+-- as many lines as codes
+pub codes-length : (h : Header) (s : List ℕ) (range : ℕ) (codes : List ℕ) → length codes ≡ length (printed h s range 0 (map lineIn codes))
+codes-length h s range codes = sym (length-map codes lineIn) ∙ sym (printed-length h s range 0 (map lineIn codes))
+
 module _ (h : Header) (s : List ℕ) (range : ℕ) (codes : List ℕ) (z : Sizes) (x e k a m l : List ℕ) (n : ℕ) where
   abbrev lines : List Line
   lines = map lineIn codes

@@ -1,4 +1,5 @@
 pub mod Listed
 pub mod Marks
+pub mod Draft
 pub mod Called
 pub mod Demand

@@ -1,13 +1,13 @@
 // The call that lists a range.
+use crate::draft::draft_plan;
+use crate::draft::put_lines;
 use crate::marks::put_addresses;
 use crate::marks::put_marks;
 use crate::rooms::Rooms;
 use crate::rooms::Sizes;
 use crate::rooms::room_no;
-use crate::sizes::sizes_of_plan;
 use flow::planned::plan_record;
 use flow::rows::block_rows;
-use line::lines::print_lines;
 use line::rows::row_table;
 use lists::parts::part_u16;
 use lists::parts::part_u64;
@@ -16,7 +16,6 @@ use record::asked::Asked;
 use record::asked::record;
 use record::header::Header;
 use record::layout::size;
-use tokens::pen::first_pen;
 use tokens::words::word_table;
 use x86::table::isa;
 ghost use mathlib.Core.List.{map};
@@ -28,9 +27,9 @@ ghost use Rattle.line.specs.Lines.{lineIn};
 ghost use Rattle.line.specs.Print.{printed};
 ghost use Rattle.line.specs.Bounds.{Fits};
 ghost use Rattle.tokens.specs.Listing.{listing};
-ghost use Rattle.pseudo.specs.Listed.{lineAddress, lineMark};
 ghost use Rattle.pseudo.specs.Marks.{Indented};
-ghost use Rattle.pseudo.specs.Called.{Stands, PlanListed, Accepted, Called};
+ghost use Rattle.pseudo.specs.Called.{PlanListed, Accepted, Called, sizesOf};
+ghost use Rattle.pseudo.specs.Draft.{Draft};
 
 // A listing with its sizes, or the number of the question that got a no.
 pub enum Answer {
@@ -38,14 +37,19 @@ pub enum Answer {
     No(u8),
 }
 
-// The six lists of a plan.
-fn put_plan(
+// The listing of a plan from its draft, if the lists have room for it.
+fn list_draft(
     text: &mut [u8],
     ends: &mut [u32],
     kinds: &mut [u8],
     addresses: &mut [u64],
     marks: &mut [u16],
     lines: &mut [u32],
+    t: &[u8],
+    e: &[u32],
+    k: &[u8],
+    l: &[u32],
+    sizes: Sizes,
     words: &[u8],
     isa: &[u8],
     rec: &[u8],
@@ -54,23 +58,40 @@ fn put_plan(
     blocks: &[u16],
     range: u16,
     codes: &[u64],
-)
+) -> Answer
     requires { ⌜ Lent (now words) (now isa) h (now rec) ⌝ }
     requires { ⌜ now rows ≡ rowBytes ⌝ }
     requires { ⌜ now blocks ≡ blockRows h (now rec) ⌝ }
     requires { ⌜ Fits (printed h (now rec) range 0 (map lineIn (now codes))) ⌝ }
     requires { ⌜ Indented (now codes) ⌝ }
-    ensures { λ _. ⌜ Stands (listing (printed h (now (rec .entry)) range 0 (map lineIn (now (codes .entry)))))
-        (map (lineAddress h (now (rec .entry))) (map lineIn (now (codes .entry)))) (map lineMark (map lineIn (now (codes .entry))))
+    requires { ⌜ sizes ≡ sizesOf (listing (printed h (now rec) range 0 (map lineIn (now codes)))) (now codes) ⌝ }
+    requires { ⌜ Draft (listing (printed h (now rec) range 0 (map lineIn (now codes)))) (now t) (now e) (now k) (now l) ⌝ }
+    ensures { λ r. ⌜ PlanListed h (now (rec .entry)) range (map lineIn (now (codes .entry)))
         (now (text .entry)) (now (text .exit)) (now (ends .entry)) (now (ends .exit)) (now (kinds .entry)) (now (kinds .exit))
-        (now (addresses .entry)) (now (addresses .exit)) (now (marks .entry)) (now (marks .exit)) (now (lines .entry)) (now (lines .exit)) ⌝ }
+        (now (addresses .entry)) (now (addresses .exit)) (now (marks .entry)) (now (marks .exit)) (now (lines .entry)) (now (lines .exit)) r ⌝ }
 {
-    print_lines(
-        lines,
+    let rooms = Rooms {
+        text: text.len(),
+        ends: ends.len(),
+        kinds: kinds.len(),
+        addresses: addresses.len(),
+        marks: marks.len(),
+        lines: lines.len(),
+    };
+    let no = room_no(sizes, rooms);
+    if no != 0 {
+        return Answer::No(no);
+    }
+    put_lines(
         text,
         ends,
         kinds,
-        first_pen(),
+        lines,
+        t,
+        e,
+        k,
+        l,
+        sizes,
         words,
         isa,
         rec,
@@ -82,9 +103,10 @@ fn put_plan(
     );
     put_addresses(addresses, rec, h, codes);
     put_marks(marks, codes);
+    Answer::Listed(sizes)
 }
 
-// The listing of a plan, if the lists have room for it.
+// The listing of a plan. The draft has room for most listings; it is printed before any lent list is touched.
 fn list_plan(
     text: &mut [u8],
     ends: &mut [u32],
@@ -110,26 +132,15 @@ fn list_plan(
         (now (text .entry)) (now (text .exit)) (now (ends .entry)) (now (ends .exit)) (now (kinds .entry)) (now (kinds .exit))
         (now (addresses .entry)) (now (addresses .exit)) (now (marks .entry)) (now (marks .exit)) (now (lines .entry)) (now (lines .exit)) r ⌝ }
 {
-    let sizes = sizes_of_plan(words, isa, rec, h, rows, blocks, range, codes);
-    let rooms = Rooms {
-        text: text.len(),
-        ends: ends.len(),
-        kinds: kinds.len(),
-        addresses: addresses.len(),
-        marks: marks.len(),
-        lines: lines.len(),
-    };
-    let no = room_no(sizes, rooms);
-    if no != 0 {
-        return Answer::No(no);
-    }
-    put_plan(
-        text,
-        ends,
-        kinds,
-        addresses,
-        marks,
-        lines,
+    let mut t = [0u8; 16384];
+    let mut e = [0u32; 4096];
+    let mut k = [0u8; 4096];
+    let mut l = [0u32; 900];
+    let sizes = draft_plan(
+        &mut t,
+        &mut e,
+        &mut k,
+        &mut l,
         words,
         isa,
         rec,
@@ -139,7 +150,27 @@ fn list_plan(
         range,
         codes,
     );
-    Answer::Listed(sizes)
+    list_draft(
+        text,
+        ends,
+        kinds,
+        addresses,
+        marks,
+        lines,
+        &t,
+        &e,
+        &k,
+        &l,
+        sizes,
+        words,
+        isa,
+        rec,
+        h,
+        rows,
+        blocks,
+        range,
+        codes,
+    )
 }
 
 // The listing of a range of an accepted record, from the tables and the blocks' rows.

@@ -1,5 +1,5 @@
 // The call: questions, sizes, lists.
 pub mod call;
+pub mod draft;
 pub mod marks;
 pub mod rooms;
-pub mod sizes;

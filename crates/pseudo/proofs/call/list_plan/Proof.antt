@@ -1,21 +1,38 @@
 -- `list_plan` meets its contract.
--- By whether there is room for the sizes.
-use Rattle.pseudo.proofs.Answers.{plan-refused, plan-listed}
+-- The draft is what the lister asks for.
 use borrow.Author.Needs.{needs}
 use Rattle.pseudo.proofs.call.list_plan.Statement.{statement}
 use Rattle.pseudo.proofs.call.list_plan.Tie as tie
 
-sizes-of-plan-requires : tie.Need-sizes-of-plan-requires
-sizes-of-plan-requires c κs = ((c .before .before .before .before .before .before .before .before .before .before .before .before .pre) .0, ((c .before .before .before .before .before .before .before .before .before .before .before .before .pre) .1 .0, ((c .before .before .before .before .before .before .before .before .before .before .before .before .pre) .1 .1 .0, (c .before .before .before .before .before .before .before .before .before .before .before .before .pre) .1 .1 .1 .0)))
+slice-aggregate-draft-plan : tie.Need-slice-aggregate-draft-plan
+slice-aggregate-draft-plan c = search needs
 
-room-no-requires : tie.Need-room-no-requires
-room-no-requires c κs = search needs
+slice-aggregate-draft-plan-2 : tie.Need-slice-aggregate-draft-plan-2
+slice-aggregate-draft-plan-2 c = search needs
 
-returns : tie.Need-returns
-returns c = plan-refused ((c .before .before .before .before .before .before .before .before .before .before .before .before .before .before .before .args) .h) ((c .before .before .before .before .before .before .before .before .before .before .before .before .before .before .before .args) .rec .now) ((c .before .before .before .before .before .before .before .before .before .before .before .before .before .before .before .args) .range) ((c .before .before .before .before .before .before .before .before .before .before .before .before .before .before .before .args) .codes .now) _ _ _ _ _ _ _ _ ((c .before .before .sizes-of-plan) .ensures) ((c .before .room-no) .ensures) ((c .if1) .taken)
+slice-aggregate-draft-plan-3 : tie.Need-slice-aggregate-draft-plan-3
+slice-aggregate-draft-plan-3 c = search needs
 
-put-plan-requires : tie.Need-put-plan-requires
-put-plan-requires c κs = ((c .before .before .before .before .before .before .before .before .before .before .before .before .before .before .before .before .before .before .before .before .before .pre) .0, ((c .before .before .before .before .before .before .before .before .before .before .before .before .before .before .before .before .before .before .before .before .before .pre) .1 .0, ((c .before .before .before .before .before .before .before .before .before .before .before .before .before .before .before .before .before .before .before .before .before .pre) .1 .1 .0, ((c .before .before .before .before .before .before .before .before .before .before .before .before .before .before .before .before .before .before .before .before .before .pre) .1 .1 .1 .0, (c .before .before .before .before .before .before .before .before .before .before .before .before .before .before .before .before .before .before .before .before .before .pre) .1 .1 .1 .1))))
+slice-aggregate-draft-plan-4 : tie.Need-slice-aggregate-draft-plan-4
+slice-aggregate-draft-plan-4 c = search needs
+
+draft-plan-requires : tie.Need-draft-plan-requires
+draft-plan-requires c κs = ((c .before .before .before .before .before .before .before .before .before .before .before .before .before .before .before .before .pre) .0, ((c .before .before .before .before .before .before .before .before .before .before .before .before .before .before .before .before .pre) .1 .0, ((c .before .before .before .before .before .before .before .before .before .before .before .before .before .before .before .before .pre) .1 .1 .0, (c .before .before .before .before .before .before .before .before .before .before .before .before .before .before .before .before .pre) .1 .1 .1 .0)))
+
+slice-aggregate-list-draft : tie.Need-slice-aggregate-list-draft
+slice-aggregate-list-draft c = search needs
+
+slice-aggregate-list-draft-2 : tie.Need-slice-aggregate-list-draft-2
+slice-aggregate-list-draft-2 c = search needs
+
+slice-aggregate-list-draft-3 : tie.Need-slice-aggregate-list-draft-3
+slice-aggregate-list-draft-3 c = search needs
+
+slice-aggregate-list-draft-4 : tie.Need-slice-aggregate-list-draft-4
+slice-aggregate-list-draft-4 c = search needs
+
+list-draft-requires : tie.Need-list-draft-requires
+list-draft-requires c κs = ((c .before .before .before .before .before .before .before .before .before .before .before .before .before .before .before .before .before .before .before .before .before .before .before .before .before .before .before .before .before .before .before .pre) .0, ((c .before .before .before .before .before .before .before .before .before .before .before .before .before .before .before .before .before .before .before .before .before .before .before .before .before .before .before .before .before .before .before .pre) .1 .0, ((c .before .before .before .before .before .before .before .before .before .before .before .before .before .before .before .before .before .before .before .before .before .before .before .before .before .before .before .before .before .before .before .pre) .1 .1 .0, ((c .before .before .before .before .before .before .before .before .before .before .before .before .before .before .before .before .before .before .before .before .before .before .before .before .before .before .before .before .before .before .before .pre) .1 .1 .1 .0, ((c .before .before .before .before .before .before .before .before .before .before .before .before .before .before .before .before .before .before .before .before .before .before .before .before .before .before .before .before .before .before .before .pre) .1 .1 .1 .1, ((c .before .before .before .before .before .before .before .before .before .before .before .before .before .before .draft-plan) .ensures .0, (c .before .before .before .before .before .before .before .before .before .before .before .before .before .before .draft-plan) .ensures .1))))))
 
 same-length : tie.Need-same-length
 same-length c = search needs
@@ -35,21 +52,27 @@ same-length-5 c = search needs
 same-length-6 : tie.Need-same-length-6
 same-length-6 c = search needs
 
-returns-2 : tie.Need-returns-2
-returns-2 c = plan-listed ((c .before .before .before .before .before .before .before .before .before .before .before .before .before .before .before .before .before .before .before .before .before .before .before .before .before .before .before .before .before .before .before .before .before .before .args) .h) ((c .before .before .before .before .before .before .before .before .before .before .before .before .before .before .before .before .before .before .before .before .before .before .before .before .before .before .before .before .before .before .before .before .before .before .args) .rec .now) ((c .before .before .before .before .before .before .before .before .before .before .before .before .before .before .before .before .before .before .before .before .before .before .before .before .before .before .before .before .before .before .before .before .before .before .args) .range) ((c .before .before .before .before .before .before .before .before .before .before .before .before .before .before .before .before .before .before .before .before .before .before .before .before .before .before .before .before .before .before .before .before .before .before .args) .codes .now) _ _ _ _ _ _ _ _ _ _ _ _ _ _ ((c .before .before .before .before .before .before .before .before .before .before .before .before .before .before .before .before .before .before .before .before .before .sizes-of-plan) .ensures) ((c .before .before .before .before .before .before .before .before .before .before .before .before .before .before .before .before .before .before .before .before .room-no) .ensures) ((c .before .before .before .before .before .before .before .before .before .before .before .before .before .before .before .before .before .before .before .if1) .left) ((c .before .before .before .before .before .before .before .before .before .before .before .before .put-plan) .ensures)
+returns : tie.Need-returns
+returns c = search needs
 
 pub list-plan-spec : {M : Type 1} → statement M
 list-plan-spec =
     tie.close
     (tie.spec
-    sizes-of-plan-requires
-    room-no-requires
-    returns
-    put-plan-requires
+    slice-aggregate-draft-plan
+    slice-aggregate-draft-plan-2
+    slice-aggregate-draft-plan-3
+    slice-aggregate-draft-plan-4
+    draft-plan-requires
+    slice-aggregate-list-draft
+    slice-aggregate-list-draft-2
+    slice-aggregate-list-draft-3
+    slice-aggregate-list-draft-4
+    list-draft-requires
     same-length
     same-length-2
     same-length-3
     same-length-4
     same-length-5
     same-length-6
-    returns-2)
+    returns)
