@@ -227,7 +227,7 @@ pub fn lines(seed: u64, count: usize) -> Result<bool, String> {
     Ok(tally.end())
 }
 
-/// Whole listings: every list of the port against the Rust's, and refusals of lists one too short.
+/// Whole listings: every list of the port against the Rust's, demand 3 of what both list, and refusals of lists one too short.
 pub fn whole(seed: u64, count: usize) -> Result<bool, String> {
     let port = port::list()?;
     let mut rng = Rng::new(seed);
@@ -308,6 +308,7 @@ fn lists_alike(call: &Call, port: port::List, n: usize, seen: &mut Seen) -> Resu
     seen.add(&ours);
     let (x, k, l) = (ours.text.len(), ours.token_ends.len(), ours.lines());
     accepted(call, port, Lists::lent(x, [k, k], [l, l, l]), &ours)?;
+    demand3::check(&Record::parse(bytes), *from, *to, &ours)?;
     accepted(call, port, Lists::lent(x + 3, [k + 1, k + 2], [l + 4, l + 1, l + 2]), &ours)?;
     if l == 0 {
         return Ok(());
