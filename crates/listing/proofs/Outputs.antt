@@ -3,14 +3,16 @@
 use mathlib.Core.Path.{_≡_, refl, sym, ap, _∙_}
 use mathlib.Core.Bool.{Bool, true, false}
 use mathlib.Core.List.{List, _++_}
-use Prim.Native.Nat.{ℕ, zero, suc, _≤_}
+use Prim.Native.Nat.{ℕ, zero, suc, _+_, _≤_}
 use native.Mathlib.Omega.{arith}
 use lib.ListN.{length, take, drop, length-append, length-map, replicate, length-replicate}
 use lib.Seq.{take-append-seam}
 use Rattle.lists.specs.Put.{put}
+use Rattle.lists.specs.PutLaws.{put-fits}
 use Rattle.tokens.specs.Listing.{Listing, listing}
 use Rattle.tokens.specs.ListingLaws.{lines-length}
 use Rattle.record.specs.Header.{headerOf}
+use Rattle.operand.specs.Bounds.{AllBytes}
 use Rattle.structure.specs.Flow.{firstIn}
 use Rattle.flow.specs.Rows.{blockRows}
 use Rattle.flow.specs.Planned.{recordPlan}
@@ -21,8 +23,16 @@ use Rattle.pseudo.specs.declared.call.Answer.the-variants.{Listed, No}
 use Rattle.pseudo.specs.Listed.{lineAddress, lineMark, recordLines, recordListing, recordAddresses, recordMarks}
 use Rattle.pseudo.specs.Called.{answerFor, over, left, roomsOf, sizesOf, sizes, Leaves, callNo, Called}
 use Rattle.pseudo.proofs.Answers.{printed-length}
-use Rattle.page.specs.Page.{refusal, pageText}
-use Rattle.listing.specs.Output.{programRooms, pageOf, outputFor, blocks, recordPage, outputText}
+use Rattle.page.specs.Page.{refusal, linesEnd, pageText}
+use Rattle.page.proofs.Lengths.{page-short}
+use Rattle.listing.specs.Output.{programRooms, pageOf, outputFor, outputText}
+use Rattle.listing.proofs.Ends.{ends-rise, last-end, addresses-small}
+
+-- a text that was stored where there is room for it stands there whole
+pub stands-whole : (t e e′ : List ℕ) (r : ℕ) → r ≡ length t → e′ ≡ put 0 t e → r ≤ length e → take r e′ ≡ t
+stands-whole t e e′ r p q h =
+    let is : e′ ≡ t ++ drop (0 + length t) e = q ∙ put-fits 0 t e (omega arith) in
+    rw (is, p) (take-append-seam t (drop (0 + length t) e))
 
 -- ---- the number of an answer
 abbrev isListed : Answer → Bool
@@ -129,3 +139,14 @@ module _ (s : List ℕ) (to : ℕ) (whole : to ≡ headerOf s .blocks) (x′ e�
           lines-size,
         )
         (sym (output ∙ ap (λ (n : ℕ). outputFor n (pageOf t va mk)) o))
+
+    -- "lines=900" and LF, 900 lines of 528 bytes beside their text, and the text
+    pub short-output : AllBytes s → length x′ ≡ 65536 → length a′ ≡ 900 → length (outputText s) ≤ 540746
+    short-output bytes p q =
+        let ls = recordLines (headerOf s) s 0 to in
+        let same : length ls ≡ length va = sym (lines-length ls) ∙ many in
+        let plan = recordPlan (headerOf s) s 0 to in
+        let short = page-short (t .text) (t .ends) (t .lines) va mk (addresses-small (headerOf s) s bytes plan) (length va) (λ i h. ends-rise ls i (omega arith)) (omega (arith, few-lines, lines-size)) in
+        let last : linesEnd (t .ends) (t .lines) (length va) ≡ length (t .text) = ap (linesEnd (t .ends) (t .lines)) (sym same) ∙ last-end ls in
+        let is : length (outputText s) ≡ length (pageOf t va mk) = ap length (output ∙ ap (λ (n : ℕ). outputFor n (pageOf t va mk)) (zeroed .0)) in
+        omega (arith, short, last, is, few-lines, lines-size, short-text, text-size)

@@ -7,7 +7,8 @@ use native.Mathlib.Omega.{arith}
 use lib.ListN.{length, length-replicate}
 use Rattle.lists.specs.Put.{put}
 use Rattle.record.specs.declared.header.Header.{Header}
-use Rattle.listing.proofs.Outputs.{no-output, few-lines, short-text, page-output}
+use Rattle.operand.specs.Bounds.{AllBytes}
+use Rattle.listing.proofs.Outputs.{stands-whole, no-output, few-lines, short-text, page-output, short-output}
 use borrow.Author.Needs.{needs}
 use Rattle.listing.proofs.answer.Statement.{statement}
 use Rattle.listing.proofs.answer.Tie as tie
@@ -78,7 +79,8 @@ put-page-requires c κs =
     let whole = (c .before .before .before .before .before .before .before .before .before .before .before .before .before .before .before .before .before .before .before .before .before .before .before .before .before .before .before .size) .ensures .0 ∙ ap (λ (h : Header). h .blocks) ((c .before .before .before .before .before .before .before .before .before .before .before .before .before .before .before .before .before .before .before .before .before .before .before .before .before .before .before .before .read-header) .ensures) in
     let few = few-lines s _ whole _ _ _ _ _ _ _ ((c .before .before .before .before .before .before .before .before .before .before .before .before .before .before .before .before .before .before .before .before .list) .ensures) _ ((c .before .before .before .before .before .before .before .before .before .before .before .before .z) .given .1) in
     let short = short-text s _ whole _ _ _ _ _ _ _ ((c .before .before .before .before .before .before .before .before .before .before .before .before .before .before .before .before .before .before .before .before .list) .ensures) _ ((c .before .before .before .before .before .before .before .before .before .before .before .before .z) .given .1) in
-    (omega (arith, few, (c .before .before .before .before .before .before .before .before .before .before .before .before .before .before .before .before .before .before .before .before .list) .kept .1 .1 .1 .1 .1 .1 .0, length-replicate {A = ℕ} 900 0), omega (arith, short, (c .before .before .before .before .before .before .before .before .part) .ensures .1, (c .before .before .before .before .before .before .before .before .before .before .before .before .before .before .before .before .before .before .before .before .list) .kept .1 .1 .1 .0, length-replicate {A = ℕ} 65536 0))
+    let kept = (c .before .before .before .before .before .before .before .before .before .before .before .before .before .before .before .before .before .before .before .before .list) .kept .1 .1 .1 in
+    (omega (arith, few, kept .1 .1 .1 .0, length-replicate {A = ℕ} 900 0), omega (arith, short, (c .before .before .before .before .before .before .before .before .part) .ensures .1, kept .0, length-replicate {A = ℕ} 65536 0))
 
 enum-known-n : tie.Need-enum-known-n
 enum-known-n c = search needs
@@ -92,9 +94,15 @@ same-length c = search needs
 returns : tie.Need-returns
 returns c =
     let s = (c .before .before .before .before .before .before .before .before .before .before .before .before .before .before .before .before .before .before .before .before .before .before .before .before .before .before .before .before .before .before .before .before .before .before .args) .rec .now in
+    let out = (c .before .before .before .before .before .before .before .before .before .before .before .before .before .before .before .before .before .before .before .before .before .before .before .before .before .before .before .before .before .before .before .before .before .before .args) .out .now in
     let whole = (c .before .before .before .before .before .before .before .before .before .before .before .before .before .before .before .before .before .before .before .before .before .before .before .before .before .before .before .before .before .before .size) .ensures .0 ∙ ap (λ (h : Header). h .blocks) ((c .before .before .before .before .before .before .before .before .before .before .before .before .before .before .before .before .before .before .before .before .before .before .before .before .before .before .before .before .before .before .before .read-header) .ensures) in
+    let bytes : AllBytes s = λ k. omega (arith, (c .before .before .before .before .before .before .before .before .before .before .before .before .before .before .before .before .before .before .before .before .before .before .before .before .before .before .before .before .before .before .before .before .before .shared-slice-known) .given k) in
+    let kept = (c .before .before .before .before .before .before .before .before .before .before .before .before .before .before .before .before .before .before .before .before .before .before .before .list) .kept .1 .1 .1 in
     let p = page-output s _ whole _ _ _ _ _ _ _ ((c .before .before .before .before .before .before .before .before .before .before .before .before .before .before .before .before .before .before .before .before .before .before .before .list) .ensures) _ ((c .before .before .before .before .before .before .before .before .before .before .before .before .before .before .before .z) .given .1) _ _ _ _ _ ((c .before .before .before .before .before .before .before .before .before .before .before .part) .ensures .0) ((c .before .before .before .before .before .before .before .before .before .part-u32) .ensures) ((c .before .before .before .before .before .before .before .part-u322) .ensures) ((c .before .before .before .before .before .part-u64) .ensures) ((c .before .before .before .part-u16) .ensures) in
-    ((c .before .before .put-page) .ensures .0 ∙ ap length p, (c .before .before .put-page) .ensures .1 ∙ ap (λ (t : List ℕ). put 0 t ((c .before .before .before .before .before .before .before .before .before .before .before .before .before .before .before .before .before .before .before .before .before .before .before .before .before .before .before .before .before .before .before .before .before .before .args) .out .now)) p)
+    let short = short-output s _ whole _ _ _ _ _ _ _ ((c .before .before .before .before .before .before .before .before .before .before .before .before .before .before .before .before .before .before .before .before .before .before .before .list) .ensures) _ ((c .before .before .before .before .before .before .before .before .before .before .before .before .before .before .before .z) .given .1) bytes (kept .0 ∙ length-replicate {A = ℕ} 65536 0) (kept .1 .1 .1 .0 ∙ length-replicate {A = ℕ} 900 0) in
+    let end = (c .before .before .put-page) .ensures .0 ∙ ap length p in
+    let text = (c .before .before .put-page) .ensures .1 ∙ ap (λ (t : List ℕ). put 0 t out) p in
+    ((end, omega (arith, end, short)), (text, λ room. stands-whole _ out _ _ end text (omega (arith, end, short, room))))
 
 same-length-2 : tie.Need-same-length-2
 same-length-2 c = search needs
@@ -102,9 +110,13 @@ same-length-2 c = search needs
 returns-2 : tie.Need-returns-2
 returns-2 c =
     let s = (c .before .before .before .before .before .before .before .before .before .before .before .before .before .before .before .before .before .before .before .before .before .before .before .before .args) .rec .now in
+    let out = (c .before .before .before .before .before .before .before .before .before .before .before .before .before .before .before .before .before .before .before .before .before .before .before .before .args) .out .now in
     let whole = (c .before .before .before .before .before .before .before .before .before .before .before .before .before .before .before .before .before .before .before .before .size) .ensures .0 ∙ ap (λ (h : Header). h .blocks) ((c .before .before .before .before .before .before .before .before .before .before .before .before .before .before .before .before .before .before .before .before .before .read-header) .ensures) in
     let p = no-output s _ whole _ _ _ _ _ _ _ ((c .before .before .before .before .before .before .before .before .before .before .before .before .before .list) .ensures) _ ((c .before .before .before .before .before .n) .given .1) in
-    ((c .before .before .put-refusal) .ensures .0 .0 ∙ sym (ap length p), (c .before .before .put-refusal) .ensures .1 ∙ sym (ap (λ (t : List ℕ). put 0 t ((c .before .before .before .before .before .before .before .before .before .before .before .before .before .before .before .before .before .before .before .before .before .before .before .before .args) .out .now)) p))
+    let end = (c .before .before .put-refusal) .ensures .0 .0 ∙ sym (ap length p) in
+    let text = (c .before .before .put-refusal) .ensures .1 ∙ sym (ap (λ (t : List ℕ). put 0 t out) p) in
+    let short = (c .before .before .put-refusal) .ensures .0 .1 in
+    ((end, omega (arith, short)), (text, λ room. stands-whole _ out _ _ end text (omega (arith, short, room))))
 
 pub answer-spec : {M : Type 1} → statement M
 answer-spec =
