@@ -1,2 +1,3 @@
 pub mod Ends
 pub mod Outputs
+pub mod Suffice
