@@ -8,6 +8,8 @@ use Rattle.pseudo.specs.declared.rooms.Rooms.{Rooms}
 use Rattle.pseudo.specs.Listed.{recordListing, recordAddresses, recordMarks}
 use Rattle.pseudo.specs.Called.{callNo}
 use Rattle.page.specs.Page.{refusal, pageText}
+use Rattle.listing.specs.declared.Input.{Input}
+use Rattle.listing.specs.declared.Input.the-variants.{All, Failed}
 
 -- "A listing over 65,536 text bytes is `no 12`, over 16,384 tokens `no 13`; 900 lines always suffice."
 abbrev pub programRooms : Rooms
@@ -32,3 +34,8 @@ module _ (s : List ℕ) where
 
   unfoldable pub outputText : List ℕ
   outputText = outputFor (callNo s 0 blocks programRooms) recordPage
+
+-- how many bytes were read; none count where reading failed
+abbrev pub bytesRead : Input → ℕ
+bytesRead (All n) = n
+bytesRead Failed = 0

@@ -1,4 +1,7 @@
 // Lists the record that is read from standard input: the page of its whole range, or `no` and a number.
+use libc::STDERR_FILENO;
+use libc::STDIN_FILENO;
+use libc::STDOUT_FILENO;
 use lists::parts::part;
 use lists::parts::part_u16;
 use page::entries::part_u32;
@@ -13,7 +16,7 @@ ghost use mathlib.Core.Path.{_≡_};
 ghost use Prim.Native.Nat.{_≤_};
 ghost use lib.ListN.{length, take};
 ghost use Rattle.lists.specs.Put.{put};
-ghost use Rattle.listing.specs.Output.{outputText};
+ghost use Rattle.listing.specs.Output.{outputText, bytesRead};
 
 // What the program prints of a record; answers how many bytes that is. `lines=900` and LF are 10, each of 900 lines has 16 digits,
 // a space, at most 2 * 255 spaces and LF beside its text, and the text at most 65,536: 540,746 bytes in all.
@@ -53,18 +56,20 @@ fn answer(rec: &[u8], out: &mut [u8]) -> usize
     }
 }
 
-// What reading the input came to.
+// What reading the input came to: how many bytes there are.
 enum Input {
     All(usize),
     Failed,
 }
 
 // Reads until the list is full or the input ends.
-fn read_input(rec: &mut [u8]) -> Input {
+fn read_input(rec: &mut [u8]) -> Input
+    ensures { λ r. ⌜ bytesRead r ≤ length (now (rec .entry)) ⌝ }
+{
     let mut n = 0;
     while n < rec.len() {
         let rest = &mut rec[n..];
-        let got = libc::read(0, rest);
+        let got = libc::read(STDIN_FILENO, rest);
         if got < 0 {
             return Input::Failed;
         }
@@ -77,11 +82,12 @@ fn read_input(rec: &mut [u8]) -> Input {
     Input::All(n)
 }
 
-// On standard error; there is no other way to say that it failed.
+// Says on standard error what failed. A program of the kit has no exit status but 0.
 fn complain(what: &[u8]) {
-    io::write_all(2, what);
+    io::write_all(STDERR_FILENO, what);
 }
 
+// Reads at most 65,537 bytes, one more than a record may have.
 fn main() {
     let mut rec = [0u8; 65537];
     match read_input(&mut rec) {
@@ -89,7 +95,7 @@ fn main() {
         Input::All(n) => {
             let mut out = [0u8; 540746];
             let m = answer(part(&rec, 0, n), &mut out);
-            if !io::write_all(1, part(&out, 0, m)) {
+            if !io::write_all(STDOUT_FILENO, part(&out, 0, m)) {
                 complain(b"listing: standard output cannot be written\n");
             }
         }
