@@ -12,7 +12,7 @@ use lib.ListN.{length, take, length-take}
 use lib.Seq.{take-all, getD-take}
 use Rattle.lists.specs.Bytes.{u8At, u16At, u32At}
 use Rattle.record.specs.declared.header.Header.{Header}
-use Rattle.record.specs.Header.{headerOf, headerFits, fieldsOk, limitsOk}
+use Rattle.record.specs.Header.{headerOf, fieldsOk, limitsOk}
 use Rattle.record.specs.Layout.{sizeOf, lengthOk}
 use Rattle.record.specs.Asked.{ask, sizesNo, firstNo}
 use Rattle.pseudo.specs.AskedLaws.{both-yes}

@@ -9,7 +9,7 @@ use lib.ListN.{length, take, drop, length-append, length-map, replicate, length-
 use lib.Seq.{take-append-seam}
 use Rattle.lists.specs.Put.{put}
 use Rattle.lists.specs.PutLaws.{put-fits}
-use Rattle.tokens.specs.Listing.{Listing, listing}
+use Rattle.tokens.specs.Listing.{Listing}
 use Rattle.tokens.specs.ListingLaws.{lines-length}
 use Rattle.record.specs.Header.{headerOf}
 use Rattle.operand.specs.Bounds.{AllBytes}
@@ -17,11 +17,10 @@ use Rattle.structure.specs.Flow.{firstIn}
 use Rattle.flow.specs.Rows.{blockRows}
 use Rattle.flow.specs.Planned.{recordPlan}
 use Rattle.pseudo.specs.declared.rooms.Sizes.{Sizes}
-use Rattle.pseudo.specs.declared.rooms.Rooms.{Rooms}
 use Rattle.pseudo.specs.declared.call.Answer.{Answer}
 use Rattle.pseudo.specs.declared.call.Answer.the-variants.{Listed, No}
 use Rattle.pseudo.specs.Listed.{lineAddress, lineMark, recordLines, recordListing, recordAddresses, recordMarks}
-use Rattle.pseudo.specs.Called.{answerFor, over, left, roomsOf, sizesOf, sizes, Leaves, callNo, Called}
+use Rattle.pseudo.specs.Called.{numberOf, answerFor, left, roomsOf, sizes, callNo, Called}
 use Rattle.pseudo.proofs.Answers.{printed-length}
 use Rattle.page.specs.Page.{refusal, linesEnd, pageText}
 use Rattle.page.proofs.Lengths.{page-short}
@@ -43,10 +42,6 @@ abbrev sizesIn : Sizes → Answer → Sizes
 sizesIn d (Listed z) = z
 sizesIn d (No n) = d
 
-abbrev numberIn : Answer → ℕ
-numberIn (Listed z) = 0
-numberIn (No n) = n
-
 different : {A : Type 0} → true ≡ false → A
 different e = absurd (let z : _≡_ {A = ℕ} 0 1 = cc in omega arith)
 
@@ -56,7 +51,7 @@ listed-zero z d (suc n) e = different (ap isListed e)
 
 refused-output : (m : ℕ) (d : Sizes) (n : ℕ) (page : List ℕ) → No m ≡ answerFor d n → outputFor n page ≡ refusal m
 refused-output m d zero page e = different (sym (ap isListed e))
-refused-output m d (suc n) page e = ap refusal (sym (ap numberIn e))
+refused-output m d (suc n) page e = ap refusal (sym (ap numberOf e))
 
 -- ---- the entries of a list that the sizes count
 taken : (n k : ℕ) (new old l : List ℕ) → n ≡ 0 → l ≡ left n new old → k ≡ length new → take k l ≡ new

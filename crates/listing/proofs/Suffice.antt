@@ -1,6 +1,6 @@
 -- "900 lines always suffice": the program never prints `no 14`.
 -- No question before 12 has that number, and an accepted record has at most 900 lines.
-use mathlib.Core.Path.{_≡_, refl, ap}
+use mathlib.Core.Path.{_≡_, refl}
 use mathlib.Core.Bool.{Bool, true, false, _&&_}
 use mathlib.Core.List.{List}
 use Prim.Native.Nat.{ℕ, zero, suc, _≤_}

@@ -1,15 +1,14 @@
 -- How long the page is at most.
 -- A line has at most 528 bytes beside its text, and where lines end in order their texts lie one behind the other.
-use mathlib.Core.Path.{_≡_, refl, sym, ap, _∙_}
-use mathlib.Core.List.{List, [], _∷_, _++_}
-use Prim.Native.Nat.{ℕ, zero, suc, _+_, _*_, _/_, _%_, _^_, _≤_, _<_}
+use mathlib.Core.Path.{_≡_}
+use mathlib.Core.List.{List}
+use Prim.Native.Nat.{ℕ, zero, suc, _+_, _*_, _/_, _^_, _≤_, _<_}
 use native.Mathlib.Nat.{add-zero}
 use native.Mathlib.Decide.{decLt}
 use native.Mathlib.Omega.{arith}
-use lib.ListN.{length, getD, replicate, take, length-append, length-replicate, length-take, length-drop}
+use lib.ListN.{length, getD, take, length-append, length-replicate, length-take, length-drop}
 use lib.Seq.{slice}
-use Rattle.lists.specs.Ascii.{ascii}
-use Rattle.page.specs.Page.{decimalText, lf, numbered, countLine, addressText, lineOf, linesEnd, lineBytes, lineText, linesText, pageText}
+use Rattle.page.specs.Page.{decimalText, numbered, countLine, lineOf, linesEnd, lineBytes, linesText, pageText}
 use Rattle.page.proofs.Pieces.{decimal-1, decimal-2, decimal-3, address-length}
 
 decimal-short : (n : ℕ) → n < 1000 → length (decimalText n) ≤ 3

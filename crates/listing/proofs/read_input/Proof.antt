@@ -1,8 +1,7 @@
 -- `read_input` is safe and ends.
 -- Each turn reads a byte or more, and what is read lies within the list.
-use mathlib.Core.Path.{_≡_, refl}
+use mathlib.Core.Path.{_≡_}
 use Prim.Native.Nat.{_-_, _≤_}
-use native.Mathlib.Omega.{arith}
 use lib.ListN.{length}
 use borrow.Author.Needs.{needs}
 use Rattle.listing.proofs.read_input.Statement.{statement}

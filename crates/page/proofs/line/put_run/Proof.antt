@@ -2,7 +2,6 @@
 -- The invariant: to store what is left from here is to store all from the start.
 use mathlib.Core.Path.{_≡_, refl}
 use Prim.Native.Nat.{_+_, _-_, _≤_}
-use native.Mathlib.Omega.{arith}
 use lib.ListN.{length, replicate}
 use Rattle.lists.specs.Put.{put}
 use Rattle.page.proofs.Pieces.{run-start, run-turn, run-done}
