@@ -6,3 +6,5 @@ pub mod Commas
 pub mod Names
 pub mod Pieces
 pub mod Turns
+pub mod ArgumentLaw
+pub mod Exports

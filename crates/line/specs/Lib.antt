@@ -5,3 +5,6 @@ pub mod Codes
 pub mod Print
 pub mod Lines
 pub mod Bounds
+pub mod ArgumentLaw
+pub mod Cases
+pub mod Export

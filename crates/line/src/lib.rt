@@ -2,6 +2,7 @@
 pub mod arguments;
 pub mod assembly;
 pub mod condition;
+pub mod export;
 pub mod forms;
 pub mod lines;
 pub mod print;

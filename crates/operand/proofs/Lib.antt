@@ -3,5 +3,4 @@ pub mod Entries
 pub mod Integers
 pub mod Pushes
 pub mod Choices
-pub mod Exports
 pub mod Printing

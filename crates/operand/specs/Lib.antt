@@ -7,5 +7,3 @@ pub mod Bounds
 pub mod Lent
 pub mod Sized
 pub mod Accepted
-pub mod Export
-pub mod Cases

@@ -1,6 +1,5 @@
 // Operands: names of addresses, memory, immediates.
 pub mod alike;
-pub mod export;
 pub mod memory;
 pub mod names;
 pub mod numbers;

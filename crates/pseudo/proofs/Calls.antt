@@ -31,7 +31,7 @@ use Rattle.flow.specs.Bounds.{record-placed, record-few, record-shallow}
 use Rattle.line.specs.Bounds.{Fits, printed-fits}
 use Rattle.line.specs.Lines.{lineIn, lines-again}
 use Rattle.line.specs.Print.{printed}
-use Rattle.pseudo.specs.AskedLaws.{yes-limits, yes-marks, yes-range}
+use Rattle.record.specs.AskedLaws.{yes-limits, yes-marks, yes-range}
 use Rattle.pseudo.specs.Listed.{recordLines}
 use Rattle.pseudo.specs.Marks.{Indented}
 use Rattle.pseudo.specs.Called.{Accepted, PlanListed, Leaves, callNo, Called}

@@ -1,4 +1,4 @@
-pub mod AskedLaws
 pub mod Listed
 pub mod Marks
 pub mod Called
+pub mod Demand

@@ -1,7 +1,6 @@
 // The call that lists a range.
 use crate::marks::put_addresses;
 use crate::marks::put_marks;
-use crate::parts::part_u64;
 use crate::rooms::Rooms;
 use crate::rooms::Sizes;
 use crate::rooms::room_no;
@@ -11,6 +10,7 @@ use flow::rows::block_rows;
 use line::lines::print_lines;
 use line::rows::row_table;
 use lists::parts::part_u16;
+use lists::parts::part_u64;
 use lists::reads::u16_in;
 use record::asked::Asked;
 use record::asked::record;

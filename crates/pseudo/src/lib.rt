@@ -1,6 +1,5 @@
 // The call: questions, sizes, lists.
 pub mod call;
 pub mod marks;
-pub mod parts;
 pub mod rooms;
 pub mod sizes;

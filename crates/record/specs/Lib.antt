@@ -5,3 +5,4 @@ pub mod Body
 pub mod Atlas
 pub mod Asked
 pub mod Running
+pub mod AskedLaws

@@ -27,8 +27,12 @@ extern "C" {
 
 /// One call on lent lists: the number, the sizes, and the lists as the call left them.
 pub fn list(bytes: &[u8], from: usize, to: usize, mut lists: Lists) -> Left {
+    let (no, sizes) = call(bytes, from, to, &mut lists);
+    Left { no, sizes, lists }
+}
+
+fn call(bytes: &[u8], from: usize, to: usize, l: &mut Lists) -> (u8, [usize; 3]) {
     let mut sizes = [0xeeu64; 3];
-    let l = &mut lists;
     // The function is total: it reads only the bytes lent and stores nothing past the lists lent.
     let no = unsafe {
         cakirotu_list(
@@ -52,5 +56,25 @@ pub fn list(bytes: &[u8], from: usize, to: usize, mut lists: Lists) -> Left {
             sizes.len(),
         )
     };
-    Left { no, sizes: sizes.map(|n| n as usize), lists }
+    (no, sizes.map(|n| n as usize))
+}
+
+/// How long `times` calls for the whole range take, on lists with room to spare.
+pub fn time(bytes: &[u8], blocks: usize, times: usize) -> std::time::Duration {
+    let room = |n: usize| Lists {
+        text: vec![0; 16 * n],
+        ends: vec![0; n],
+        kinds: vec![0; n],
+        addresses: vec![0; 900],
+        marks: vec![0; 900],
+        line_ends: vec![0; 900],
+    };
+    let mut lists = room(1 << 20);
+    let began = std::time::Instant::now();
+    for _ in 0..times {
+        let (no, sizes) = call(std::hint::black_box(bytes), 0, blocks, &mut lists);
+        assert_eq!(no, 0, "a record of the benchmark is refused");
+        std::hint::black_box(sizes);
+    }
+    began.elapsed()
 }

@@ -6,8 +6,9 @@ use std::path::PathBuf;
 use crate::damage::{self, Call};
 use crate::demand3;
 use crate::gen;
+use crate::lines::Forms;
 use crate::listing;
-use crate::pieces;
+use crate::pieces::{self, Piece};
 use crate::questions;
 use crate::record::{Layout, Record, HEADER};
 use crate::rng::Rng;
@@ -17,7 +18,7 @@ pub type Comparison = fn(u64, usize) -> Result<bool, String>;
 
 /// The comparisons by name. `tools/compare` has the same names, with the library that each needs.
 pub const COMPARISONS: &[(&str, Comparison)] =
-    &[("questions", questions), ("operands", operands), ("listing", whole), ("sanity", sanity)];
+    &[("questions", questions), ("pieces", pieces), ("lines", lines), ("listing", whole), ("sanity", sanity)];
 
 /// Calls made from each valid record, itself included.
 const CALLS_A_RECORD: usize = 8;
@@ -179,33 +180,50 @@ pub fn questions(seed: u64, count: usize) -> Result<bool, String> {
     Ok(tally.end())
 }
 
-/// Operands and addresses: the port against the Rust, every slot of every instruction of generated
-/// records until so many instructions were seen.
-pub fn operands(seed: u64, count: usize) -> Result<bool, String> {
-    let port = port::operand_tokens()?;
+/// Operands, memory operands and conditions: the port against the Rust, every piece of every instruction of generated records
+/// until so many instructions were seen.
+pub fn pieces(seed: u64, count: usize) -> Result<bool, String> {
+    let port = port::piece_tokens()?;
     let mut rng = Rng::new(seed);
-    let mut tally = Tally::new("operands");
+    let mut tally = Tally::new("pieces");
     let mut forms = BTreeSet::new();
     let mut instructions = 0;
     while instructions < count {
         let call = damage::valid_call(&mut rng);
         let record = Record::parse(&call.bytes);
-        let slots = pieces::operands(&record);
-        let addresses = pieces::addresses(&record);
-        instructions += slots.len();
-        for (i, (operands, address)) in slots.iter().zip(&addresses).enumerate() {
-            for (what, ours) in operands.iter().chain([address]).enumerate() {
-                let what = if what == 5 { 6 } else { what as u8 };
-                let theirs = port(&call.bytes, i as u16, what);
-                tally.compared += 1;
-                forms.insert(ours.form());
-                if *ours != theirs {
-                    tally.differs(&call, || format!("instruction {i}, {what}: the Rust {ours}, the port {theirs}"))?;
-                }
+        instructions += record.insns().count();
+        for Piece { first, at, what, tokens } in pieces::all(&record) {
+            let theirs = port(&call.bytes, first, at, what);
+            tally.compared += 1;
+            forms.insert(tokens.form());
+            if tokens != theirs {
+                tally.differs(&call, || format!("instruction {at}, piece {what}: the Rust {tokens}, the port {theirs}"))?;
             }
         }
     }
     println!("  {instructions} instructions, {} distinct forms", forms.len());
+    Ok(tally.end())
+}
+
+/// Instruction lines of records of one block: every list of the port against the Rust's `emit_insns`, until so many
+/// instructions were seen.
+pub fn lines(seed: u64, count: usize) -> Result<bool, String> {
+    let port = port::list()?;
+    let mut rng = Rng::new(seed);
+    let mut tally = Tally::new("lines");
+    let mut forms = Forms::default();
+    while forms.instructions() < count {
+        let record = gen::one_block(&mut rng);
+        let call = Call { bytes: record.to_bytes(), from: 0, to: 1 };
+        let ours = listing::list_insns(&record).map_err(|e| format!("the Rust panics: {e}"))?;
+        forms.add(&record, &ours);
+        tally.compared += 1;
+        let (x, k, l) = (ours.text.len(), ours.token_ends.len(), ours.lines());
+        if let Err(why) = accepted(&call, port, Lists::lent(x, [k, k], [l, l, l]), &ours) {
+            tally.differs(&call, || why)?;
+        }
+    }
+    forms.print()?;
     Ok(tally.end())
 }
 
@@ -425,14 +443,15 @@ mod port {
         Err(missing("record"))
     }
 
-    pub type OperandTokens = fn(&[u8], u16, u8) -> Tokens;
+    pub type PieceTokens = fn(&[u8], u16, u16, u8) -> Tokens;
 
-    #[cfg(port_operand)]
-    pub fn operand_tokens() -> Result<OperandTokens, String> {
+    #[cfg(port_line)]
+    pub fn piece_tokens() -> Result<PieceTokens, String> {
         extern "C" {
-            fn operand_tokens(
+            fn piece_tokens(
                 rec: *const u8,
                 len: usize,
+                first: u16,
                 instruction: u16,
                 what: u8,
                 text: *mut u8,
@@ -443,14 +462,15 @@ mod port {
                 kinds_len: usize,
             ) -> u64;
         }
-        Ok(|bytes, instruction, what| {
-            let mut tokens = Tokens { text: vec![0; 1024], ends: vec![0; 64], kinds: vec![0; 64] };
+        Ok(|bytes, first, instruction, what| {
+            let mut tokens = Tokens { text: vec![0; 2048], ends: vec![0; 64], kinds: vec![0; 64] };
             let Tokens { text, ends, kinds } = &mut tokens;
             // The function is total: it stores nothing past the lists lent.
             let sizes = unsafe {
-                operand_tokens(
+                piece_tokens(
                     bytes.as_ptr(),
                     bytes.len(),
+                    first,
                     instruction,
                     what,
                     text.as_mut_ptr(),
@@ -468,9 +488,9 @@ mod port {
         })
     }
 
-    #[cfg(not(port_operand))]
-    pub fn operand_tokens() -> Result<OperandTokens, String> {
-        Err(missing("operand"))
+    #[cfg(not(port_line))]
+    pub fn piece_tokens() -> Result<PieceTokens, String> {
+        Err(missing("line"))
     }
 
     pub type List = fn(&[u8], usize, usize, Lists) -> Left;

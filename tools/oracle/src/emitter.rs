@@ -28,6 +28,34 @@ pub fn run(record: &Record, from: usize, to: usize) -> (Vec<PseudoLine>, u64) {
     (out, tag)
 }
 
+/// The lines of the first block's instructions, without structure.
+pub fn insns(record: &Record) -> (Vec<PseudoLine>, u64) {
+    let tag = free_tag(record);
+    let binary = Binary::new(record);
+    let insns: Vec<Ins> = record.blocks[0].insns.iter().zip(tag..).map(|(i, ip)| Ins::new(i, ip)).collect();
+    let mut ctx = context(record, &binary, tag);
+    let mut out = Vec::new();
+    emit_insns(&mut ctx, &insns, record.indent, &mut out, &HashMap::new(), &[], 0);
+    (out, tag)
+}
+
+/// How long `times` listings of the whole range take, with the Rust's own structures made beforehand.
+pub fn time(record: &Record, times: usize) -> std::time::Duration {
+    let binary = Binary::new(record);
+    let order: Vec<u64> = record.blocks.iter().map(|b| b.start).collect();
+    let blocks = blocks(record, free_tag(record));
+    let mut ctx = context(record, &binary, free_tag(record));
+    let began = std::time::Instant::now();
+    for _ in 0..times {
+        let mut out = Vec::new();
+        ctx.written.clear();
+        ctx.pushes.clear();
+        emit_range(&mut ctx, &blocks, &order, 0, order.len(), record.indent, &mut out, &mut BTreeSet::new());
+        std::hint::black_box(&out);
+    }
+    began.elapsed()
+}
+
 /// Every operand slot of every instruction, read as `Ctx::op` does.
 pub fn operands(record: &Record) -> Vec<[Vec<Token>; 5]> {
     let binary = Binary::new(record);
@@ -36,11 +64,11 @@ pub fn operands(record: &Record) -> Vec<[Vec<Token>; 5]> {
     record.insns().map(|i| slots(&Ins::new(i, 0))).collect()
 }
 
-/// The address of every instruction's memory operand, as `lea` prints it.
-pub fn addresses(record: &Record) -> Vec<Vec<Token>> {
+/// Every instruction's memory operand, read, or as the address that `lea` prints.
+pub fn memory(record: &Record, read: bool) -> Vec<Vec<Token>> {
     let binary = Binary::new(record);
     let ctx = context(record, &binary, 0);
-    record.insns().map(|i| joined(ctx.mem(&Ins::new(i, 0), false))).collect()
+    record.insns().map(|i| joined(ctx.mem(&Ins::new(i, 0), read))).collect()
 }
 
 /// What a condition (1 to 16) prints when each instruction tests it, block by block.

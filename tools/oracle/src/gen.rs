@@ -152,7 +152,7 @@ pub fn at_limits(rng: &mut Rng) -> Record {
 }
 
 /// If-regions in if-regions, as deep as the limits allow, around a loop or two.
-fn deepest(rng: &mut Rng) -> Record {
+pub fn deepest(rng: &mut Rng) -> Record {
     let n = rng.range(LIMIT_B - 3, LIMIT_B);
     let mut record = Record { bits: 64, indent: LIMIT_INDENT as u8, ..Record::default() };
     let starts: Vec<u64> = (1..=n as u64).map(|k| k * 0x10).collect();
@@ -165,6 +165,71 @@ fn deepest(rng: &mut Rng) -> Record {
             _ => branch(rng, &world, &mut block, n - 1, place),
         }
         set_addresses(rng, &mut block);
+        record.blocks.push(block);
+    }
+    keep_within_limits(&mut record);
+    record
+}
+
+/// One block whose last instruction closes nothing.
+pub fn one_block(rng: &mut Rng) -> Record {
+    let mut record = sized(rng, Size { blocks: (1, 1), insns: 12, atlas: 4, spans: 2 });
+    record.blocks[0].insns.push(Insn { mnemonic: m::NOP, address: 0x7fff_0000, ..Insn::default() });
+    record
+}
+
+/// Straight code: one block of 200 instructions.
+pub fn straight(rng: &mut Rng) -> Record {
+    let mut record = sized(rng, Size { blocks: (1, 1), insns: 1, atlas: 8, spans: 3 });
+    fill_to(rng, &mut record, 200, 0);
+    record
+}
+
+/// A routine of about 40 blocks and 200 instructions.
+pub fn flow_rich(rng: &mut Rng) -> Record {
+    let mut record = sized(rng, Size { blocks: (38, 42), insns: 4, atlas: 12, spans: 3 });
+    fill_to(rng, &mut record, 200, 0);
+    record
+}
+
+/// 500 instructions, pushes with a call now and then: each call looks back for its arguments.
+pub fn pushes(rng: &mut Rng) -> Record {
+    let mut record = Record { bits: 32, blocks: vec![Block { start: 0x1000, ..Block::default() }], ..Record::default() };
+    let world = world(&record, vec![0x1000]);
+    let far = rng.range(1, 250);
+    let insns = (0..LIMIT_I).map(|n| if n % far == far - 1 { indirect(rng, &world, m::JMP) } else { one(rng, &world, m::PUSH) });
+    record.blocks[0].insns = insns.collect();
+    record
+}
+
+/// 500 instructions that name addresses of a full atlas.
+pub fn named(rng: &mut Rng) -> Record {
+    let mut record = sized(rng, Size { blocks: (1, 1), insns: 1, atlas: 0, spans: 0 });
+    record.atlas =
+        (0..LIMIT_A as u64).map(|n| Entry { address: 0x5000 + n * 16, kind: 1 + (n % 3) as u8, text: vec![b'a'; 20] }).collect();
+    record.spans = (0..LIMIT_S as u64).map(|n| (0x5000 + n * 100, 0x5000 + n * 100 + 99)).collect();
+    let mut load = one(rng, &world(&record, vec![0x1000]), m::MOV);
+    load.operands[1] = Operand { kind: kind::IMM32, register: 0, number: 0x5000 };
+    record.blocks[0].insns = vec![load; LIMIT_I];
+    for (n, i) in record.blocks[0].insns.iter_mut().enumerate() {
+        i.operands[1].number = 0x5000 + (n as u64 % LIMIT_A as u64) * 16;
+    }
+    record
+}
+
+/// So many blocks, the same four again and again, two instructions each.
+pub fn repeated(blocks: usize) -> Record {
+    let rng = &mut Rng::new(3);
+    let mut record = Record { bits: 64, ..Record::default() };
+    let starts: Vec<u64> = (1..=blocks as u64).map(|k| k * 0x10).collect();
+    let world = world(&record, starts);
+    let body = any_insn(rng, &world);
+    for place in 0..blocks {
+        let mut block = Block { start: world.starts[place], insns: vec![body], ..Block::default() };
+        let to = place / 4 * 4 + [3, 3, 0, 3][place % 4];
+        if to < blocks && place % 4 != 3 {
+            branch(rng, &world, &mut block, to, place);
+        }
         record.blocks.push(block);
     }
     keep_within_limits(&mut record);

@@ -5,6 +5,7 @@ pub mod compare;
 pub mod damage;
 pub mod demand3;
 pub mod gen;
+pub mod lines;
 pub mod listing;
 pub mod pieces;
 pub mod questions;
@@ -13,6 +14,8 @@ pub mod rng;
 
 #[cfg(port_abi)]
 mod abi;
+#[cfg(port_abi)]
+pub mod bench;
 mod binary;
 mod emitter;
 mod iced;

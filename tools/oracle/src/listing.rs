@@ -63,8 +63,17 @@ pub fn refusal(number: u8) -> Vec<u8> {
 }
 
 pub fn list_record(record: &Record, from: usize, to: usize) -> Result<Listing, String> {
+    lines_of(record, || emitter::run(record, from, to))
+}
+
+/// The first block's instructions, without structure.
+pub fn list_insns(record: &Record) -> Result<Listing, String> {
+    lines_of(record, || emitter::insns(record))
+}
+
+fn lines_of(record: &Record, run: impl Fn() -> (Vec<PseudoLine>, u64)) -> Result<Listing, String> {
     QUIET.set(true);
-    let run = catch_unwind(AssertUnwindSafe(|| emitter::run(record, from, to)));
+    let run = catch_unwind(AssertUnwindSafe(run));
     QUIET.set(false);
     match run {
         Ok((lines, tag)) => Ok(lists(record, &lines, tag)),
@@ -137,6 +146,13 @@ fn origin(record: &Record, line: &PseudoLine, tag: u64) -> Origin {
 impl Listing {
     pub fn lines(&self) -> usize {
         self.line_ends.len()
+    }
+
+    /// A line's tokens: kind and text.
+    pub fn tokens(&self, n: usize) -> impl Iterator<Item = (u8, &[u8])> {
+        let first = if n == 0 { 0 } else { self.line_ends[n - 1] as usize };
+        let start = |t: usize| if t == 0 { 0 } else { self.token_ends[t - 1] as usize };
+        (first..self.line_ends[n] as usize).map(move |t| (self.token_kinds[t], &self.text[start(t)..self.token_ends[t] as usize]))
     }
 
     /// The text of a line.

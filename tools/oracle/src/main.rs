@@ -8,9 +8,11 @@ use oracle::{compare, listing, questions, record};
 const USAGE: &str = "usage: oracle list FILE [FROM TO]     the Rust's listing of a record (- for standard input)
        oracle example                the record of document 01's example, to standard output
        oracle questions SEED COUNT   compare the port's questions 1 to 11
-       oracle operands SEED COUNT    compare the port's operands and addresses with the Rust's
+       oracle pieces SEED COUNT      compare the port's operands, memory operands and conditions with the Rust's
+       oracle lines SEED COUNT       compare the port's instruction lines with the Rust's
        oracle listing SEED COUNT     compare the port's listings with the Rust's
        oracle sanity SEED COUNT      generated records against the questions, the Rust and demand 3
+       oracle bench [SET rust|port]  the port's speed against the Rust's; one listing each of a set's records
        oracle record SEED            a generated record, to standard output";
 
 fn main() -> ExitCode {
@@ -22,6 +24,12 @@ fn main() -> ExitCode {
         ["list", file, from, to] => number(from).and_then(|f| number(to).and_then(|t| list(file, Some((f, t))))),
         ["example"] => write(&record::example().to_bytes()),
         ["record", seed] => number(seed).and_then(|s| write(&compare::record(s as u64))),
+        #[cfg(port_abi)]
+        ["bench"] => oracle::bench::run(),
+        #[cfg(port_abi)]
+        ["bench", set, "rust"] => oracle::bench::once(set, true),
+        #[cfg(port_abi)]
+        ["bench", set, "port"] => oracle::bench::once(set, false),
         [what, seed, count] => compare(what, seed, count),
         _ => Err(USAGE.to_string()),
     };

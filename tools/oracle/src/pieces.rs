@@ -47,14 +47,62 @@ impl Tokens {
     }
 }
 
+/// A piece that an instruction prints in the block whose first instruction is `first`, by the number that the port has for it.
+pub struct Piece {
+    pub first: u16,
+    pub at: u16,
+    pub what: u8,
+    pub tokens: Tokens,
+}
+
+/// The port's numbers: operands from 0 on, the memory operand read and as an address, condition c as 16 + c.
+const READ: u8 = 5;
+const ADDRESS: u8 = 6;
+const CONDITIONS: u8 = 16;
+
+/// Every piece of every instruction: all operand slots, beyond the count too, the memory operand both ways, and each of the
+/// sixteen conditions as tested there.
+pub fn all(record: &Record) -> Vec<Piece> {
+    let mut out = Vec::new();
+    let firsts = firsts(record);
+    let mut add = |what: u8, tokens: Vec<Tokens>| {
+        out.extend(tokens.into_iter().zip(&firsts).enumerate().map(|(at, (tokens, &first))| Piece {
+            first,
+            at: at as u16,
+            what,
+            tokens,
+        }));
+    };
+    let slots = operands(record);
+    for k in 0..5 {
+        add(k as u8, slots.iter().map(|s| s[k].clone()).collect());
+    }
+    add(READ, memory(record, true));
+    add(ADDRESS, memory(record, false));
+    for c in 1..=16 {
+        add(CONDITIONS + c, conditions(record, c));
+    }
+    out
+}
+
+/// For every instruction the first one of its block.
+fn firsts(record: &Record) -> Vec<u16> {
+    let mut out: Vec<u16> = Vec::new();
+    for block in &record.blocks {
+        let first = out.len() as u16;
+        out.extend(block.insns.iter().map(|_| first));
+    }
+    out
+}
+
 /// Every operand slot of every instruction, beyond the count too.
 pub fn operands(record: &Record) -> Vec<[Tokens; 5]> {
     emitter::operands(record).iter().map(|slots| std::array::from_fn(|k| Tokens::new(&slots[k]))).collect()
 }
 
-/// The address of every instruction's memory operand, as `lea` prints it.
-pub fn addresses(record: &Record) -> Vec<Tokens> {
-    emitter::addresses(record).iter().map(|t| Tokens::new(t)).collect()
+/// Every instruction's memory operand, read, or as the address that `lea` prints.
+pub fn memory(record: &Record, read: bool) -> Vec<Tokens> {
+    emitter::memory(record, read).iter().map(|t| Tokens::new(t)).collect()
 }
 
 /// What a condition (1 to 16) prints when each instruction tests it.

@@ -208,11 +208,11 @@ fn registers_are_spelled_as_listed() {
 
 #[test]
 fn pieces_of_the_example() {
-    use crate::pieces::{addresses, conditions, operands};
+    use crate::pieces::{conditions, memory, operands};
     let text = |t: &crate::pieces::Tokens| String::from_utf8(t.text.clone()).unwrap();
     let record = example();
     assert_eq!(operands(&record)[2].each_ref().map(text), ["eax", "5", "none", "none", "none"]);
-    assert_eq!(text(&addresses(&record)[0]), "&unk_0");
+    assert_eq!(text(&memory(&record, false)[0]), "&unk_0");
     assert_eq!(
         conditions(&record, 6).iter().map(text).collect::<Vec<_>>(),
         ["__flags_ne", "eax != 0", "__flags_ne", "__flags_ne"]

@@ -1,9 +1,9 @@
 -- `export::is_listed` meets its contract.
 -- The header is the record's.
-use Rattle.operand.specs.Export.{isListed}
+use Rattle.line.specs.Export.{isListed}
 use borrow.Author.Needs.{needs}
-use Rattle.operand.proofs.export.is_listed.Statement.{statement}
-use Rattle.operand.proofs.export.is_listed.Tie as tie
+use Rattle.line.proofs.export.is_listed.Statement.{statement}
+use Rattle.line.proofs.export.is_listed.Tie as tie
 
 cast-record-first-no : tie.Need-cast-record-first-no
 cast-record-first-no c = search needs

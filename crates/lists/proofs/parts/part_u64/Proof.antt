@@ -2,10 +2,10 @@
 -- A length kept within the list takes the same.
 use native.Mathlib.Omega.{arith}
 use lib.ListN.{length-take}
 use Rattle.lists.proofs.Part.{take-within}
 use borrow.Author.Needs.{needs}
-use Rattle.pseudo.proofs.parts.part_u64.Statement.{statement}
-use Rattle.pseudo.proofs.parts.part_u64.Tie as tie
+use Rattle.lists.proofs.parts.part_u64.Statement.{statement}
+use Rattle.lists.proofs.parts.part_u64.Tie as tie
 
 within-requires : tie.Need-within-requires
 within-requires c κs = search needs
