@@ -78,7 +78,7 @@ stored n ls z va mk x x′ e e′ k k′ a a′ m m′ l l′ p q s b d w =
     })
 
 -- ---- of a plan's lines
-printed-length : (h : Header) (s : List ℕ) (range mask : ℕ) (p : List Line) → length (printed h s range mask p) ≡ length p
+pub printed-length : (h : Header) (s : List ℕ) (range mask : ℕ) (p : List Line) → length (printed h s range mask p) ≡ length p
 unfolding printed
 printed-length h s range mask [] = refl
 printed-length h s range mask (l ∷ ls) = ap suc (printed-length h s range (maskAfter h s mask (l .what) (l .at)) ls)

@@ -1,0 +1,4 @@
+pub mod Ends
+pub mod Long
+pub mod Outputs
+pub mod Suffice

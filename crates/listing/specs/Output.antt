@@ -1,0 +1,41 @@
+-- What the program prints of a record: "takes the whole range, and prints `no` and the number, or the lines below".
+use Prim.Native.Nat.{ℕ, zero, suc}
+use mathlib.Core.List.{List}
+use lib.ListN.{length}
+use Rattle.tokens.specs.Listing.{Listing}
+use Rattle.record.specs.Header.{headerOf}
+use Rattle.pseudo.specs.declared.rooms.Rooms.{Rooms}
+use Rattle.pseudo.specs.Listed.{recordListing, recordAddresses, recordMarks}
+use Rattle.pseudo.specs.Called.{callNo}
+use Rattle.page.specs.Page.{refusal, pageText}
+use Rattle.listing.specs.declared.Input.{Input}
+use Rattle.listing.specs.declared.Input.the-variants.{All, Failed}
+
+-- "A listing over 65,536 text bytes is `no 12`, over 16,384 tokens `no 13`; 900 lines always suffice."
+abbrev pub programRooms : Rooms
+programRooms = record { text = 65536; ends = 16384; kinds = 16384; addresses = 900; marks = 900; lines = 900 }
+
+-- the page of a listing, with its lines' addresses and marks
+abbrev pub pageOf : Listing → List ℕ → List ℕ → List ℕ
+pageOf t va mk = pageText (t .text) (t .ends) (t .lines) va mk (length va)
+
+-- the number, or the page
+abbrev pub outputFor : ℕ → List ℕ → List ℕ
+outputFor zero page = page
+outputFor (suc n) page = refusal (suc n)
+
+module _ (s : List ℕ) where
+  -- "the whole range": from 0 to the header's count of blocks
+  abbrev pub blocks : ℕ
+  blocks = headerOf s .blocks
+
+  abbrev pub recordPage : List ℕ
+  recordPage = pageOf (recordListing (headerOf s) s 0 blocks) (recordAddresses (headerOf s) s 0 blocks) (recordMarks (headerOf s) s 0 blocks)
+
+  unfoldable pub outputText : List ℕ
+  outputText = outputFor (callNo s 0 blocks programRooms) recordPage
+
+-- how many bytes were read; none count where reading failed
+abbrev pub bytesRead : Input → ℕ
+bytesRead (All n) = n
+bytesRead Failed = 0
