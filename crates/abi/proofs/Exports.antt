@@ -6,9 +6,10 @@ use Prim.Native.Nat.{ℕ}
 use lib.ListN.{set}
 use Rattle.lists.specs.Put.{put}
 use Rattle.lists.specs.PutLaws.{put-cons, put-none}
-use Rattle.pseudo.specs.Called.{numberOf, Called}
+use Rattle.record.specs.Asked.{firstNo}
+use Rattle.pseudo.specs.Called.{numberOf, Called, sizes, answerFor}
 use Rattle.pseudo.specs.declared.call.Answer.{Answer}
-use Rattle.abi.specs.Exported.{sizeList, answered, Exported}
+use Rattle.abi.specs.Exported.{sizeList, answered, Exported, Sized}
 
 -- stores one behind the other
 pub put-three : (e e₁ e₂ e₃ : List ℕ) (a b c : ℕ) → e₁ ≡ set e 0 a → e₂ ≡ set e₁ 1 b → e₃ ≡ set e₂ 2 c → e₃ ≡ put 0 (a ∷ b ∷ c ∷ []) e
@@ -23,3 +24,9 @@ exported s from to x x′ e e′ k k′ a a′ m m′ l l′ z z′ g r h p q =
       lists = subst (λ (g : Answer). Called s from to x x′ e e′ k k′ a a′ m m′ l l′ g) (h ∙ i) p;
       sizes = q ∙ ap (λ (g : Answer). put 0 (sizeList g) z) i;
     }
+
+pub sized : (s : List ℕ) (from to : ℕ) (z z′ : List ℕ) (g r : Answer) → g ≡ r → g ≡ answerFor (sizes s from to) (firstNo s from to)
+    → z′ ≡ put 0 (sizeList r) z → Sized s from to z z′ (numberOf r)
+sized s from to z z′ g r h p q =
+    let i : r ≡ answerFor (sizes s from to) (firstNo s from to) = sym h ∙ p in
+    record { number = ap numberOf i; sizes = q ∙ ap (λ (g : Answer). put 0 (sizeList g) z) i }

@@ -2,10 +2,11 @@
 use lists::stores::store_u64;
 use pseudo::call::Answer;
 use pseudo::call::list;
+use pseudo::size::size;
 ghost use mathlib.Core.List.{[], _∷_};
 ghost use mathlib.Core.Path.{_≡_};
 ghost use Rattle.lists.specs.Put.{put};
-ghost use Rattle.abi.specs.Exported.{Exported};
+ghost use Rattle.abi.specs.Exported.{Exported, Sized};
 
 // The three sizes from the start of the list on.
 fn put_sizes(sizes: &mut [u64], text: u64, tokens: u64, lines: u64)
@@ -37,6 +38,24 @@ pub extern "C" fn cakirotu_list(
         (now (sizes .entry)) (now (sizes .exit)) r ⌝ }
 {
     match list(rec, from, to, text, ends, kinds, addresses, marks, lines) {
+        Answer::Listed(z) => {
+            put_sizes(sizes, z.text as u64, z.tokens as u64, z.lines as u64);
+            0
+        }
+        Answer::No(n) => {
+            put_sizes(sizes, 0, 0, 0);
+            n
+        }
+    }
+}
+
+// The sizes of the listing of the blocks from `from` up to `to`: answers 0, or the number of the first question before 12 that gets a
+// no. Nothing is demanded of the caller.
+#[no_mangle]
+pub extern "C" fn cakirotu_size(rec: &[u8], from: usize, to: usize, sizes: &mut [u64]) -> u8
+    ensures { λ r. ⌜ Sized (now (rec .entry)) from to (now (sizes .entry)) (now (sizes .exit)) r ⌝ }
+{
+    match size(rec, from, to) {
         Answer::Listed(z) => {
             put_sizes(sizes, z.text as u64, z.tokens as u64, z.lines as u64);
             0

@@ -87,6 +87,10 @@ printed-length h s range mask (l ∷ ls) = ap suc (printed-length h s range (mas
 pub codes-length : (h : Header) (s : List ℕ) (range : ℕ) (codes : List ℕ) → length codes ≡ length (printed h s range 0 (map lineIn codes))
 codes-length h s range codes = sym (length-map codes lineIn) ∙ sym (printed-length h s range 0 (map lineIn codes))
 
+-- the number of lines by the codes, or by the lines' addresses
+pub sizes-of-lines : (h : Header) (s codes : List ℕ) (t : Listing) → sizesOf t codes ≡ sizesOf t (map (lineAddress h s) (map lineIn codes))
+sizes-of-lines h s codes t = rw (length-map (map lineIn codes) (lineAddress h s), length-map codes lineIn)
+
 module _ (h : Header) (s : List ℕ) (range : ℕ) (codes : List ℕ) (z : Sizes) (x e k a m l : List ℕ) (n : ℕ) where
   abbrev lines : List Line
   lines = map lineIn codes
@@ -98,7 +102,7 @@ module _ (h : Header) (s : List ℕ) (range : ℕ) (codes : List ℕ) (z : Sizes
   va = map (lineAddress h s) lines
 
   sizes-again : z ≡ sizesOf t codes → z ≡ sizesOf t va
-  sizes-again q = q ∙ rw (length-map lines (lineAddress h s), length-map codes lineIn)
+  sizes-again q = q ∙ sizes-of-lines h s codes t
 
   pub plan-refused : z ≡ sizesOf t codes → n ≡ roomNo z (roomsOf x e k a m l) → (n ≡ 0 → ⊥) → PlanListed h s range lines x x e e k k a a m m l l (No n)
   plan-refused q p o = rw (← sizes-again q, ← p) (refused n z t va (map lineMark lines) x e k a m l o)

@@ -32,12 +32,14 @@ use Rattle.line.specs.Bounds.{Fits, printed-fits}
 use Rattle.line.specs.Lines.{lineIn, lines-again}
 use Rattle.line.specs.Print.{printed}
 use Rattle.record.specs.AskedLaws.{yes-limits, yes-marks, yes-range}
-use Rattle.pseudo.specs.Listed.{recordLines}
+use Rattle.tokens.specs.Listing.{listing}
+use Rattle.pseudo.specs.Listed.{lineAddress, recordLines}
 use Rattle.pseudo.specs.Marks.{Indented}
-use Rattle.pseudo.specs.Called.{Accepted, PlanListed, Leaves, callNo, Called}
+use Rattle.pseudo.specs.Called.{Accepted, PlanListed, callNo, Called, sizesOf, sizes, answerFor}
+use Rattle.pseudo.specs.declared.rooms.Sizes.{Sizes}
 use Rattle.pseudo.specs.declared.call.Answer.{Answer}
 use Rattle.pseudo.specs.declared.call.Answer.the-variants.{Listed, No}
-use Rattle.pseudo.proofs.Answers.{refused}
+use Rattle.pseudo.proofs.Answers.{refused, sizes-of-lines}
 
 -- ---- what an accepted record has
 module _ (s : List ℕ) (from to : ℕ) (h : Header) (a : Accepted s from to h) where
@@ -96,6 +98,13 @@ module _ (s : List ℕ) (from to : ℕ) (h : Header) (a : Accepted s from to h) 
     unfolding recordLines callNo
     called blocks f range x x′ e e′ k k′ a′ a″ m m′ l l′ r b g c p = rw (a .yes, ← a .header) (rw (lines-are, c, g, b) at p)
 
+    pub sized : (blocks : List ℕ) (f range : ℕ) (z : Sizes) → blocks ≡ blockRows h s → f ≡ from → range ≡ firstIn blocks f
+        → z ≡ sizesOf (listing (printed h s range 0 (map lineIn codes))) codes → z ≡ sizes s from to
+    unfolding recordLines
+    sized blocks f range z b g c q =
+        let p : z ≡ sizesOf (listing (printed h s range 0 (map lineIn codes))) (map (lineAddress h s) (map lineIn codes)) = q ∙ sizes-of-lines h s codes (listing (printed h s range 0 (map lineIn codes))) in
+        rw (← a .header) (rw (lines-are, c, g, b) at p)
+
 -- ---- what the questions answer
 abbrev isYes : Asked → Bool
 isYes (case.Yes h) = true
@@ -118,6 +127,17 @@ accepted s from to h e = go (firstNo s from to) refl e
     go : (n : ℕ) → firstNo s from to ≡ n → case.Yes h ≡ answerOf n (headerOf s) → Accepted s from to h
     go zero q e = record { header = ap (headerIn h) e; yes = q }
     go (suc n) q e = different (ap isYes e)
+
+pub sized-yes : (s : List ℕ) (from to : ℕ) (h : Header) (z : Sizes) → case.Yes h ≡ answerOf (firstNo s from to) (headerOf s) → z ≡ sizes s from to
+    → Listed z ≡ answerFor (sizes s from to) (firstNo s from to)
+sized-yes s from to h z e q = rw (accepted s from to h e .yes, q)
+
+pub sized-no : (s : List ℕ) (from to n : ℕ) (z : Sizes) → case.No n ≡ answerOf (firstNo s from to) (headerOf s) → No n ≡ answerFor z (firstNo s from to)
+sized-no s from to n z q = go (firstNo s from to) q
+  where
+    go : (f : ℕ) → case.No n ≡ answerOf f (headerOf s) → No n ≡ answerFor z f
+    go zero q = different (sym (ap isYes q))
+    go (suc f) q = ap No (ap numberIn q)
 
 pub called-no : (s : List ℕ) (from to n : ℕ) (x e k a m l : List ℕ) → case.No n ≡ answerOf (firstNo s from to) (headerOf s)
     → Called s from to x x e e k k a a m m l l (No n)

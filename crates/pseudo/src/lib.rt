@@ -3,3 +3,4 @@ pub mod call;
 pub mod draft;
 pub mod marks;
 pub mod rooms;
+pub mod size;
