@@ -3,6 +3,8 @@
  * Neither function allocates, keeps a pointer, or holds state between calls; threads may call at once. Any bytes may be lent as
  * a record: every call ends with a listing or a number. Nothing is read or stored past the lengths given.
  *
+ * Give a thread that calls them 256 KiB of stack or more.
+ *
  * What a caller owes: each pointer is aligned for its type and stands for as many entries as its length says; the lists that a call
  * writes overlap neither each other nor the record. A list of length 0 may be NULL. */
 #ifndef CAKIROTU_H

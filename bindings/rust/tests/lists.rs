@@ -3,7 +3,7 @@
 mod common;
 
 use cakirotu::{list, list_into, size, Kind, Lists, Refusal, Sizes, View};
-use common::{exact, example, Lent};
+use common::{exact, example, nest, Lent};
 
 const LINES: [(Option<u64>, u8, &str); 5] = [
     (Some(0x1002), 1, "if (eax == 0) {"),
@@ -105,6 +105,16 @@ fn threads_list_at_once() {
         assert_eq!(lines_of(worker.join().unwrap().unwrap().view()), expected());
     }
 }
+
+/// The deepest nest, listed by a thread with little stack.
+#[test]
+fn little_stack_suffices() {
+    let small = std::thread::Builder::new().stack_size(STACK);
+    let listing = small.spawn(|| list(&nest(), 0..200)).unwrap().join().unwrap().unwrap();
+    assert_eq!(listing.view().lines().map(|line| line.indent).max(), Some(253));
+}
+
+const STACK: usize = 256 * 1024;
 
 /// Sizes of another call, or lists that were changed, give no view.
 #[test]

@@ -115,15 +115,3 @@ fn lines_and_tokens_have_the_whole_text() {
         assert_eq!(lines, view.text());
     }
 }
-
-/// The record at every limit, listed by a thread with little stack.
-#[test]
-fn little_stack_suffices() {
-    let largest = cases().pop().expect("a case");
-    assert_eq!(largest.no, 0);
-    let small = std::thread::Builder::new().stack_size(STACK);
-    let listed = small.spawn(move || cakirotu::list(&largest.record, largest.range).map(|listing| listing.sizes())).unwrap();
-    assert_eq!(listed.join().unwrap(), Ok(largest.sizes));
-}
-
-const STACK: usize = 256 * 1024;

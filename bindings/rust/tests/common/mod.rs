@@ -35,6 +35,25 @@ pub fn example() -> Vec<u8> {
     record
 }
 
+/// As many blocks as may be, each but the last with a branch to the last one: the deepest nest of if-regions.
+pub fn nest() -> Vec<u8> {
+    let start = |n: usize| 0x1000 + 16 * n as u64;
+    let mut record = Vec::new();
+    for field in [64u16, 1, 200, 200, 398, 0, 0, 0] {
+        record.extend(field.to_le_bytes());
+    }
+    record.extend([0, 0, 0, 0, 0, 55, 0, 0]);
+    (0..200).for_each(|n| put_u64(&mut record, &[start(n)]));
+    (0..199).for_each(|_| record.extend([1, 0, 2, 0]));
+    record.extend([1, 0, 0, 0]);
+    (0..199).for_each(|n| put_u64(&mut record, &[start(199), start(n + 1)]));
+    (0..199).for_each(|_| record.extend([1, 2]));
+    (0..200).for_each(|n| put_u64(&mut record, &[start(n)]));
+    (0..199).for_each(|_| record.extend(body(NAMED, 6, &[(2, 0, start(199))], b"jne")));
+    record.extend(body(RET, 0, &[], b""));
+    record
+}
+
 /// The example with an atlas entry, one name of one byte, and a span.
 pub fn example_with_atlas() -> Vec<u8> {
     let mut record = example();
