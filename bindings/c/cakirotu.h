@@ -1,0 +1,82 @@
+/* Cakirotu's library for C: lists blocks of a record as pseudocode. docs/BINDINGS.md says how to build and link.
+ *
+ * Neither function allocates, keeps a pointer, or holds state between calls; threads may call at once. Any bytes may be lent as
+ * a record: every call ends with a listing or a number. Nothing is read or stored past the lengths given.
+ *
+ * Give a thread that calls them 256 KiB of stack or more.
+ *
+ * What a caller owes: each pointer is aligned for its type and stands for as many entries as its length says; the lists that a call
+ * writes overlap neither each other nor the record. A list of length 0 may be NULL. */
+#ifndef CAKIROTU_H
+#define CAKIROTU_H
+
+#include <stddef.h>
+#include <stdint.h>
+
+#ifdef __cplusplus
+extern "C" {
+#endif
+
+/* What a call answers: 0, or the number of the first question that got a no. */
+enum cakirotu_answer {
+    CAKIROTU_LISTED = 0,
+    CAKIROTU_NO_HEADER = 1,        /* at least 24 bytes? */
+    CAKIROTU_NO_SETTINGS = 2,      /* bits, convention and shift as the record format has them? */
+    CAKIROTU_NO_LIMITS = 3,        /* at most 200 blocks, 500 instructions, 600 edges, 200 atlas entries, 32 spans, 4,000 text
+                                      bytes, indent 55? */
+    CAKIROTU_NO_LENGTH = 4,        /* as long as the header's sizes say? */
+    CAKIROTU_NO_COUNTS = 5,        /* do the blocks' counts total the header's, and is each label mark 0 or 1? */
+    CAKIROTU_NO_STARTS = 6,        /* do all blocks start at different addresses? */
+    CAKIROTU_NO_EDGES = 7,         /* is each edge of kind 0 to 4? */
+    CAKIROTU_NO_INSTRUCTIONS = 8,  /* is every field of each instruction, and the frame register, one that can be recorded? */
+    CAKIROTU_NO_ATLAS = 9,         /* do atlas addresses rise, do lengths total the header's, are texts as they may be? */
+    CAKIROTU_NO_SPANS = 10,        /* is each span's first address at most its last? */
+    CAKIROTU_NO_RANGE = 11,        /* from <= to <= the record's blocks? */
+    CAKIROTU_NO_TEXT_ROOM = 12,    /* is the text list long enough? */
+    CAKIROTU_NO_TOKEN_ROOM = 13,   /* are ends and kinds? */
+    CAKIROTU_NO_LINE_ROOM = 14     /* are addresses, marks and lines? */
+};
+
+/* Where the three sizes stand. */
+enum cakirotu_size_place { CAKIROTU_TEXT_BYTES, CAKIROTU_TOKENS, CAKIROTU_LINES, CAKIROTU_SIZES };
+
+/* What a token is. */
+enum cakirotu_kind {
+    CAKIROTU_TEXT,
+    CAKIROTU_REGISTER,
+    CAKIROTU_NUMBER,
+    CAKIROTU_KEYWORD,
+    CAKIROTU_SYMBOL,
+    CAKIROTU_ADDRESS, /* a name, a string, or an address with its prefix */
+    CAKIROTU_PUNCT,
+    CAKIROTU_PREFIX
+};
+
+/* A line's mark: the indent in the low byte, plus 256 if the line has an address. */
+#define CAKIROTU_INDENT 0x00ff
+#define CAKIROTU_ADDRESSED 0x0100
+
+/* Lists the blocks from `from` up to but without `to`. With 0 the lists hold the listing and their entries past the sizes are as
+ * they were; with a number every list is as it was and the sizes are 0.
+ *
+ * rec        the record's bytes
+ * from, to   places of blocks in the record's order; 0 and the number of blocks for the whole of it
+ * text       the tokens' text, one after another, without addresses, indents or line ends
+ * ends       for each token the place in `text` behind it; it begins where the one before ends
+ * kinds      for each token an enum cakirotu_kind
+ * addresses  for each line its address, 0 if it has none
+ * marks      for each line its mark
+ * lines      for each line the number of tokens up to its end; it begins where the line before ends
+ * sizes      gets text bytes, tokens, lines; a list shorter than 3 gets the first ones */
+uint8_t cakirotu_list(const uint8_t *rec, size_t rec_len, size_t from, size_t to, uint8_t *text, size_t text_len, uint32_t *ends,
+                      size_t ends_len, uint8_t *kinds, size_t kinds_len, uint64_t *addresses, size_t addresses_len, uint16_t *marks,
+                      size_t marks_len, uint32_t *lines, size_t lines_len, uint64_t *sizes, size_t sizes_len);
+
+/* The sizes of that listing: lists of just these lengths suffice for cakirotu_list. Answers 0 or a number from 1 to 11. */
+uint8_t cakirotu_size(const uint8_t *rec, size_t rec_len, size_t from, size_t to, uint64_t *sizes, size_t sizes_len);
+
+#ifdef __cplusplus
+}
+#endif
+
+#endif

@@ -1,0 +1,134 @@
+/* Lists a record file as the program `listing` does: example FILE [FROM TO]
+ * Exit status: 0 listed, 1 refused, 2 nothing could be read or printed. */
+#include "cakirotu.h"
+
+#include <errno.h>
+#include <inttypes.h>
+#include <stdio.h>
+#include <stdlib.h>
+#include <string.h>
+
+/* One byte more than a record may have: a longer file is refused by its first bytes. */
+#define MOST 65537
+
+struct listing {
+    uint64_t sizes[CAKIROTU_SIZES];
+    uint8_t *text;
+    uint32_t *ends;
+    uint8_t *kinds;
+    uint64_t *addresses;
+    uint16_t *marks;
+    uint32_t *lines;
+};
+
+static void *need(void *memory) {
+    if (memory == NULL) {
+        fputs("example: out of memory\n", stderr);
+        exit(2);
+    }
+    return memory;
+}
+
+/* Room for n entries. */
+static void *room(uint64_t n, size_t entry) { return need(malloc(n > 0 ? (size_t)n * entry : 1)); }
+
+/* The file's bytes, in memory of just their size. */
+static uint8_t *read_record(const char *name, size_t *len) {
+    FILE *file = fopen(name, "rb");
+    if (file == NULL) {
+        fprintf(stderr, "example: %s: %s\n", name, strerror(errno));
+        exit(2);
+    }
+    uint8_t *record = room(MOST, 1);
+    *len = fread(record, 1, MOST, file);
+    if (ferror(file)) {
+        fprintf(stderr, "example: %s cannot be read\n", name);
+        exit(2);
+    }
+    fclose(file);
+    return need(realloc(record, *len > 0 ? *len : 1));
+}
+
+/* How many blocks the header says; any number will do for a record without one, which is refused. */
+static size_t blocks(const uint8_t *record, size_t len) {
+    return len < 24 ? 0 : (size_t)record[4] | (size_t)record[5] << 8;
+}
+
+static void lend(struct listing *l) {
+    l->text = room(l->sizes[CAKIROTU_TEXT_BYTES], sizeof *l->text);
+    l->ends = room(l->sizes[CAKIROTU_TOKENS], sizeof *l->ends);
+    l->kinds = room(l->sizes[CAKIROTU_TOKENS], sizeof *l->kinds);
+    l->addresses = room(l->sizes[CAKIROTU_LINES], sizeof *l->addresses);
+    l->marks = room(l->sizes[CAKIROTU_LINES], sizeof *l->marks);
+    l->lines = room(l->sizes[CAKIROTU_LINES], sizeof *l->lines);
+}
+
+static void give_back(struct listing *l) {
+    free(l->text);
+    free(l->ends);
+    free(l->kinds);
+    free(l->addresses);
+    free(l->marks);
+    free(l->lines);
+}
+
+static uint8_t fill(const uint8_t *record, size_t len, size_t from, size_t to, struct listing *l) {
+    size_t text = (size_t)l->sizes[CAKIROTU_TEXT_BYTES];
+    size_t tokens = (size_t)l->sizes[CAKIROTU_TOKENS];
+    size_t lines = (size_t)l->sizes[CAKIROTU_LINES];
+    return cakirotu_list(record, len, from, to, l->text, text, l->ends, tokens, l->kinds, tokens, l->addresses, lines, l->marks, lines,
+                         l->lines, lines, l->sizes, CAKIROTU_SIZES);
+}
+
+static void print(const struct listing *l) {
+    size_t begin = 0;
+    printf("lines=%" PRIu64 "\n", l->sizes[CAKIROTU_LINES]);
+    for (size_t i = 0; i < l->sizes[CAKIROTU_LINES]; i++) {
+        size_t end = l->lines[i] > 0 ? l->ends[l->lines[i] - 1] : 0;
+        if (l->marks[i] & CAKIROTU_ADDRESSED) {
+            printf("%016" PRIX64 " ", l->addresses[i]);
+        } else {
+            fputs("---------------- ", stdout);
+        }
+        printf("%*s", 2 * (l->marks[i] & CAKIROTU_INDENT), "");
+        fwrite(l->text + begin, 1, end - begin, stdout);
+        putchar('\n');
+        begin = end;
+    }
+}
+
+/* The listing of a range, or the number of the refusal. */
+static uint8_t list(const uint8_t *record, size_t len, size_t from, size_t to) {
+    struct listing l;
+    uint8_t no = cakirotu_size(record, len, from, to, l.sizes, CAKIROTU_SIZES);
+    if (no == CAKIROTU_LISTED) {
+        lend(&l);
+        no = fill(record, len, from, to, &l);
+        if (no == CAKIROTU_LISTED) {
+            print(&l);
+        }
+        give_back(&l);
+    }
+    if (no != CAKIROTU_LISTED) {
+        printf("no %d\n", no);
+    }
+    return no;
+}
+
+int main(int argc, char **argv) {
+    if (argc != 2 && argc != 4) {
+        fputs("usage: example FILE [FROM TO]\n", stderr);
+        return 2;
+    }
+    size_t len;
+    uint8_t *record = read_record(argv[1], &len);
+    size_t from = argc == 4 ? (size_t)strtoull(argv[2], NULL, 10) : 0;
+    size_t to = argc == 4 ? (size_t)strtoull(argv[3], NULL, 10) : blocks(record, len);
+    uint8_t no = list(record, len, from, to);
+    free(record);
+    if (fflush(stdout) != 0) {
+        fputs("example: standard output cannot be written\n", stderr);
+        return 2;
+    }
+    return no == CAKIROTU_LISTED ? 0 : 1;
+}

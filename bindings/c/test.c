@@ -1,0 +1,160 @@
+/* Tests the library as C calls it: test FILE, where FILE is the record of examples/worked.txt. Prints `test: N passed`, or what failed.
+ * Each list stands in memory of just its length, so that a memory checker sees every step past it. */
+#include "cakirotu.h"
+
+#include <stdio.h>
+#include <stdlib.h>
+#include <string.h>
+
+#define BLOCKS 3
+#define LISTS 6
+
+static const size_t ENTRY[LISTS] = {sizeof(uint8_t), sizeof(uint32_t), sizeof(uint8_t), sizeof(uint64_t), sizeof(uint16_t), sizeof(uint32_t)};
+static const uint8_t TOO_SHORT[LISTS] = {CAKIROTU_NO_TEXT_ROOM, CAKIROTU_NO_TOKEN_ROOM, CAKIROTU_NO_TOKEN_ROOM,
+                                         CAKIROTU_NO_LINE_ROOM, CAKIROTU_NO_LINE_ROOM,  CAKIROTU_NO_LINE_ROOM};
+static int passed;
+
+#define CHECK(what)                                                  \
+    do {                                                             \
+        if (!(what)) {                                               \
+            printf("test: line %d failed: %s\n", __LINE__, #what);   \
+            exit(1);                                                 \
+        }                                                            \
+        passed++;                                                    \
+    } while (0)
+
+/* The lists in the call's order: text, ends, kinds, addresses, marks, lines. */
+struct lists {
+    size_t len[LISTS];
+    void *at[LISTS];
+};
+
+/* Memory for each list with every byte 0xee; NULL for a list of length 0. */
+static struct lists lend(const size_t len[LISTS]) {
+    struct lists l;
+    for (int i = 0; i < LISTS; i++) {
+        size_t bytes = len[i] * ENTRY[i];
+        l.len[i] = len[i];
+        l.at[i] = bytes > 0 ? malloc(bytes) : NULL;
+        if (bytes > 0) {
+            CHECK(l.at[i] != NULL);
+            memset(l.at[i], 0xee, bytes);
+        }
+    }
+    return l;
+}
+
+/* Frees the lists and tells whether they are as they were lent from these places on. */
+static int unchanged(struct lists *l, const size_t from[LISTS]) {
+    int same = 1;
+    for (int i = 0; i < LISTS; i++) {
+        const uint8_t *bytes = l->at[i];
+        for (size_t at = from[i] * ENTRY[i]; at < l->len[i] * ENTRY[i]; at++) {
+            same = same && bytes[at] == 0xee;
+        }
+        free(l->at[i]);
+    }
+    return same;
+}
+
+static uint8_t list(const uint8_t *rec, size_t len, size_t from, size_t to, const struct lists *l, uint64_t *sizes, size_t n) {
+    return cakirotu_list(rec, len, from, to, l->at[0], l->len[0], l->at[1], l->len[1], l->at[2], l->len[2], l->at[3], l->len[3], l->at[4],
+                         l->len[4], l->at[5], l->len[5], sizes, n);
+}
+
+static const size_t NONE[LISTS];
+
+/* The lengths that a listing of these sizes needs. */
+static void exact(const uint64_t sizes[CAKIROTU_SIZES], size_t len[LISTS]) {
+    static const int which[LISTS] = {CAKIROTU_TEXT_BYTES, CAKIROTU_TOKENS, CAKIROTU_TOKENS, CAKIROTU_LINES, CAKIROTU_LINES, CAKIROTU_LINES};
+    for (int i = 0; i < LISTS; i++) {
+        len[i] = (size_t)sizes[which[i]];
+    }
+}
+
+/* Everything empty and NULL, the record too. */
+static void test_null(const uint8_t *rec, size_t len) {
+    struct lists none = lend(NONE);
+    uint64_t sizes[CAKIROTU_SIZES] = {7, 7, 7};
+    CHECK(cakirotu_size(NULL, 0, 0, 0, NULL, 0) == CAKIROTU_NO_HEADER);
+    CHECK(list(NULL, 0, 0, 0, &none, NULL, 0) == CAKIROTU_NO_HEADER);
+    CHECK(list(NULL, 0, 0, 0, &none, sizes, CAKIROTU_SIZES) == CAKIROTU_NO_HEADER);
+    CHECK(sizes[0] == 0 && sizes[1] == 0 && sizes[2] == 0);
+    CHECK(list(rec, len, 1, 1, &none, NULL, 0) == CAKIROTU_LISTED);
+    CHECK(list(rec, len, 0, BLOCKS, &none, NULL, 0) == CAKIROTU_NO_TEXT_ROOM);
+    CHECK(cakirotu_size(rec, len, 0, BLOCKS, NULL, 0) == CAKIROTU_LISTED);
+    CHECK(cakirotu_size(rec, len, 0, BLOCKS + 1, NULL, 0) == CAKIROTU_NO_RANGE);
+}
+
+/* Lists that fit, that are longer, and each one too short or NULL. */
+static void test_lengths(const uint8_t *rec, size_t len, const uint64_t need[CAKIROTU_SIZES]) {
+    size_t fit[LISTS];
+    exact(need, fit);
+    for (size_t more = 0; more < 3; more++) {
+        size_t longer[LISTS];
+        for (int i = 0; i < LISTS; i++) {
+            longer[i] = fit[i] + more * (size_t)(i + 1);
+        }
+        struct lists l = lend(longer);
+        uint64_t sizes[CAKIROTU_SIZES];
+        CHECK(list(rec, len, 0, BLOCKS, &l, sizes, CAKIROTU_SIZES) == CAKIROTU_LISTED);
+        CHECK(memcmp(sizes, need, sizeof sizes) == 0);
+        CHECK(unchanged(&l, fit));
+    }
+    for (int i = 0; i < 2 * LISTS; i++) {
+        size_t shorter[LISTS];
+        memcpy(shorter, fit, sizeof fit);
+        shorter[i % LISTS] = i < LISTS ? fit[i] - 1 : 0;
+        struct lists l = lend(shorter);
+        uint64_t sizes[CAKIROTU_SIZES] = {7, 7, 7};
+        CHECK(list(rec, len, 0, BLOCKS, &l, sizes, CAKIROTU_SIZES) == TOO_SHORT[i % LISTS]);
+        CHECK(sizes[0] == 0 && sizes[1] == 0 && sizes[2] == 0);
+        CHECK(unchanged(&l, NONE));
+    }
+}
+
+/* A list of sizes of any length gets the first ones. */
+static void test_sizes(const uint8_t *rec, size_t len, const uint64_t need[CAKIROTU_SIZES]) {
+    size_t fit[LISTS];
+    exact(need, fit);
+    for (size_t n = 0; n <= CAKIROTU_SIZES + 1; n++) {
+        uint64_t sizes[CAKIROTU_SIZES + 1] = {7, 7, 7, 7};
+        uint64_t sized[CAKIROTU_SIZES + 1] = {7, 7, 7, 7};
+        struct lists l = lend(fit);
+        CHECK(cakirotu_size(rec, len, 0, BLOCKS, sized, n) == CAKIROTU_LISTED);
+        CHECK(list(rec, len, 0, BLOCKS, &l, sizes, n) == CAKIROTU_LISTED);
+        CHECK(unchanged(&l, fit));
+        CHECK(memcmp(sizes, sized, sizeof sizes) == 0);
+        for (size_t i = 0; i <= CAKIROTU_SIZES; i++) {
+            CHECK(sizes[i] == (i < n && i < CAKIROTU_SIZES ? need[i] : 7));
+        }
+    }
+}
+
+/* Every shorter record is refused: by 1 without a header, else by 4. */
+static void test_cut(const uint8_t *rec, size_t len) {
+    for (size_t n = 0; n < len; n++) {
+        uint8_t *cut = malloc(n > 0 ? n : 1);
+        CHECK(cut != NULL);
+        memcpy(cut, rec, n);
+        CHECK(cakirotu_size(cut, n, 0, BLOCKS, NULL, 0) == (n < 24 ? CAKIROTU_NO_HEADER : CAKIROTU_NO_LENGTH));
+        free(cut);
+    }
+}
+
+int main(int argc, char **argv) {
+    static uint8_t rec[4096];
+    FILE *file = argc == 2 ? fopen(argv[1], "rb") : NULL;
+    CHECK(file != NULL);
+    size_t len = fread(rec, 1, sizeof rec, file);
+    fclose(file);
+    uint64_t need[CAKIROTU_SIZES];
+    CHECK(cakirotu_size(rec, len, 0, BLOCKS, need, CAKIROTU_SIZES) == CAKIROTU_LISTED);
+    CHECK(need[CAKIROTU_LINES] == 5);
+    test_null(rec, len);
+    test_lengths(rec, len, need);
+    test_sizes(rec, len, need);
+    test_cut(rec, len);
+    printf("test: %d passed\n", passed);
+    return 0;
+}

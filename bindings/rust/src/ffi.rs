@@ -1,0 +1,75 @@
+//! The two functions of libabi.a. All unsafe code is here.
+
+use crate::{Blocks, Lists, Refusal, Sizes};
+
+#[cfg(not(target_arch = "x86_64"))]
+compile_error!("libabi.a is for x86-64 alone");
+
+extern "C" {
+    fn cakirotu_list(
+        rec: *const u8,
+        rec_len: usize,
+        from: usize,
+        to: usize,
+        text: *mut u8,
+        text_len: usize,
+        ends: *mut u32,
+        ends_len: usize,
+        kinds: *mut u8,
+        kinds_len: usize,
+        addresses: *mut u64,
+        addresses_len: usize,
+        marks: *mut u16,
+        marks_len: usize,
+        lines: *mut u32,
+        lines_len: usize,
+        sizes: *mut u64,
+        sizes_len: usize,
+    ) -> u8;
+
+    fn cakirotu_size(rec: *const u8, rec_len: usize, from: usize, to: usize, sizes: *mut u64, sizes_len: usize) -> u8;
+}
+
+pub fn size(record: &[u8], blocks: Blocks) -> Result<Sizes, Refusal> {
+    let mut sizes = [0; 3];
+    // The function is total: it reads the record alone and stores into the sizes alone.
+    let no = unsafe { cakirotu_size(record.as_ptr(), record.len(), blocks.from, blocks.to, sizes.as_mut_ptr(), sizes.len()) };
+    answer(no, sizes)
+}
+
+pub fn list(record: &[u8], blocks: Blocks, l: &mut Lists<'_>) -> Result<Sizes, Refusal> {
+    let mut sizes = [0; 3];
+    // The function is total: it reads the record alone and stores nothing past the lists, which as `&mut` are all apart.
+    let no = unsafe {
+        cakirotu_list(
+            record.as_ptr(),
+            record.len(),
+            blocks.from,
+            blocks.to,
+            l.text.as_mut_ptr(),
+            l.text.len(),
+            l.ends.as_mut_ptr(),
+            l.ends.len(),
+            l.kinds.as_mut_ptr(),
+            l.kinds.len(),
+            l.addresses.as_mut_ptr(),
+            l.addresses.len(),
+            l.marks.as_mut_ptr(),
+            l.marks.len(),
+            l.lines.as_mut_ptr(),
+            l.lines.len(),
+            sizes.as_mut_ptr(),
+            sizes.len(),
+        )
+    };
+    answer(no, sizes)
+}
+
+/// Panics on a number that the library does not answer: then another one is linked.
+fn answer(no: u8, sizes: [u64; 3]) -> Result<Sizes, Refusal> {
+    if no != 0 {
+        return Err(Refusal::from_number(no).unwrap_or_else(|| panic!("libabi.a answers {no}")));
+    }
+    let [text, tokens, lines] = sizes.map(|n| n as usize);
+    Ok(Sizes { text, tokens, lines })
+}

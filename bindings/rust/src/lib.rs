@@ -1,0 +1,154 @@
+//! Lists blocks of an x86 routine's record as pseudocode, by Cakirotu's proved library.
+//!
+//! Any bytes may be lent as a record: every call ends with a listing or a [`Refusal`]. [`list`] allocates a [`Listing`] of just
+//! the size needed; [`size`] and [`list_into`] allocate nothing and work on lists that the caller lends.
+//!
+//! ```
+//! let record = std::fs::read("no such file").unwrap_or_default();
+//! match cakirotu::list(&record, cakirotu::blocks(&record)) {
+//!     Ok(listing) => listing.view().lines().for_each(|line| println!("{}", String::from_utf8_lossy(line.text()))),
+//!     Err(refusal) => println!("{refusal}"),
+//! }
+//! ```
+
+mod ffi;
+mod refusal;
+mod view;
+
+use std::ops::Range;
+
+pub use refusal::Refusal;
+pub use view::{Kind, Line, Lines, Token, Tokens, View};
+
+/// How long a listing is.
+#[derive(Clone, Copy, Debug, Default, PartialEq, Eq, Hash)]
+pub struct Sizes {
+    /// Bytes of text.
+    pub text: usize,
+    pub tokens: usize,
+    pub lines: usize,
+}
+
+/// Places of blocks in a record's order, the last one not included: made from `from..to` or `(from, to)`.
+#[derive(Clone, Copy, Debug, PartialEq, Eq, Hash)]
+pub struct Blocks {
+    pub from: usize,
+    pub to: usize,
+}
+
+impl From<Range<usize>> for Blocks {
+    fn from(range: Range<usize>) -> Blocks {
+        Blocks { from: range.start, to: range.end }
+    }
+}
+
+impl From<(usize, usize)> for Blocks {
+    fn from((from, to): (usize, usize)) -> Blocks {
+        Blocks { from, to }
+    }
+}
+
+/// All blocks that a record's header speaks of; none if there is no header, so that a call for them is refused.
+pub fn blocks(record: &[u8]) -> Blocks {
+    match record {
+        [_, _, _, _, low, high, ..] => Blocks { from: 0, to: u16::from_le_bytes([*low, *high]).into() },
+        _ => Blocks { from: 0, to: 0 },
+    }
+}
+
+/// Six lists that a call fills. The two of tokens may differ in length, and so may the three of lines: the shortest counts.
+#[derive(Debug, Default)]
+pub struct Lists<'a> {
+    /// The tokens' text, one after another.
+    pub text: &'a mut [u8],
+    /// For each token the place in `text` behind it.
+    pub ends: &'a mut [u32],
+    /// For each token the number of its [`Kind`].
+    pub kinds: &'a mut [u8],
+    /// For each line its address, 0 if it has none.
+    pub addresses: &'a mut [u64],
+    /// For each line its indent, plus 256 if it has an address.
+    pub marks: &'a mut [u16],
+    /// For each line the number of tokens up to its end.
+    pub lines: &'a mut [u32],
+}
+
+impl Lists<'_> {
+    /// What a call with these sizes left in the lists; none if they do not hold a listing of these sizes.
+    pub fn view(&self, sizes: Sizes) -> Option<View<'_>> {
+        View::of(
+            self.text.get(..sizes.text)?,
+            self.ends.get(..sizes.tokens)?,
+            self.kinds.get(..sizes.tokens)?,
+            self.addresses.get(..sizes.lines)?,
+            self.marks.get(..sizes.lines)?,
+            self.lines.get(..sizes.lines)?,
+        )
+    }
+}
+
+/// How long the listing of some blocks is: lists of just these lengths suffice. A refusal is one of 1 to 11.
+pub fn size(record: &[u8], blocks: impl Into<Blocks>) -> Result<Sizes, Refusal> {
+    ffi::size(record, blocks.into())
+}
+
+/// Lists some blocks into lists that the caller lends, and says how far it filled them. Entries past the sizes stay as they were;
+/// if the call is refused, all of them do.
+pub fn list_into(record: &[u8], blocks: impl Into<Blocks>, lists: &mut Lists<'_>) -> Result<Sizes, Refusal> {
+    ffi::list(record, blocks.into(), lists)
+}
+
+/// Lists some blocks into a listing of its own, allocated in just the size needed. A refusal is one of 1 to 11, and allocates
+/// nothing.
+pub fn list(record: &[u8], blocks: impl Into<Blocks>) -> Result<Listing, Refusal> {
+    let blocks = blocks.into();
+    let sizes = size(record, blocks)?;
+    let mut listing = Listing::room(sizes);
+    list_into(record, blocks, &mut listing.lists())?;
+    Ok(listing)
+}
+
+/// A listing that owns its lists. They cannot be changed, so that they always hold together.
+#[derive(Clone, Debug, PartialEq, Eq)]
+pub struct Listing {
+    text: Box<[u8]>,
+    ends: Box<[u32]>,
+    kinds: Box<[u8]>,
+    addresses: Box<[u64]>,
+    marks: Box<[u16]>,
+    lines: Box<[u32]>,
+}
+
+impl Listing {
+    fn room(sizes: Sizes) -> Listing {
+        Listing {
+            text: vec![0; sizes.text].into(),
+            ends: vec![0; sizes.tokens].into(),
+            kinds: vec![0; sizes.tokens].into(),
+            addresses: vec![0; sizes.lines].into(),
+            marks: vec![0; sizes.lines].into(),
+            lines: vec![0; sizes.lines].into(),
+        }
+    }
+
+    fn lists(&mut self) -> Lists<'_> {
+        Lists {
+            text: &mut self.text,
+            ends: &mut self.ends,
+            kinds: &mut self.kinds,
+            addresses: &mut self.addresses,
+            marks: &mut self.marks,
+            lines: &mut self.lines,
+        }
+    }
+
+    pub fn sizes(&self) -> Sizes {
+        Sizes { text: self.text.len(), tokens: self.ends.len(), lines: self.lines.len() }
+    }
+
+    /// The listing line by line.
+    pub fn view(&self) -> View<'_> {
+        View::of(&self.text, &self.ends, &self.kinds, &self.addresses, &self.marks, &self.lines)
+            .expect("an accepted call's lists")
+    }
+}

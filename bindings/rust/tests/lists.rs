@@ -1,0 +1,138 @@
+//! What is listed, and lists of every length.
+
+mod common;
+
+use cakirotu::{list, list_into, size, Kind, Lists, Refusal, Sizes, View};
+use common::{exact, example, nest, Lent};
+
+const LINES: [(Option<u64>, u8, &str); 5] = [
+    (Some(0x1002), 1, "if (eax == 0) {"),
+    (Some(0x1004), 2, "eax = 5;"),
+    (None, 1, "}"),
+    (Some(0x1010), 0, "loc_1010:"),
+    (Some(0x1010), 1, "return;"),
+];
+
+fn lines_of(view: View<'_>) -> Vec<(Option<u64>, u8, String)> {
+    view.lines().map(|line| (line.address, line.indent, String::from_utf8(line.text().to_vec()).unwrap())).collect()
+}
+
+fn expected() -> Vec<(Option<u64>, u8, String)> {
+    LINES.map(|(address, indent, text)| (address, indent, text.to_string())).to_vec()
+}
+
+#[test]
+fn document_01s_example() {
+    let record = example();
+    assert_eq!(cakirotu::blocks(&record), (0..3).into());
+    let listing = list(&record, cakirotu::blocks(&record)).unwrap();
+    assert_eq!(lines_of(listing.view()), expected());
+    let second = listing.view().lines().nth(1).unwrap();
+    let tokens: Vec<(Kind, &[u8])> = second.tokens().map(|token| (token.kind, token.text)).collect();
+    let want: [(Kind, &[u8]); 4] = [(Kind::Register, b"eax"), (Kind::Punct, b" = "), (Kind::Number, b"5"), (Kind::Punct, b";")];
+    assert_eq!(tokens, want);
+}
+
+#[test]
+fn exact_fit_passes() {
+    let sizes = size(&example(), 0..3).unwrap();
+    let mut lent = Lent::new(exact(sizes));
+    assert_eq!(list_into(&example(), 0..3, &mut lent.lists()), Ok(sizes));
+    assert_eq!(lines_of(lent.lists().view(sizes).unwrap()), expected());
+}
+
+#[test]
+fn one_too_short_is_refused_and_changes_nothing() {
+    let sizes = size(&example(), 0..3).unwrap();
+    let numbers = [12, 13, 13, 14, 14, 14];
+    for (which, number) in numbers.into_iter().enumerate() {
+        let mut lengths = exact(sizes);
+        lengths[which] -= 1;
+        let lent = Lent::new(lengths);
+        let mut left = lent.clone();
+        assert_eq!(list_into(&example(), 0..3, &mut left.lists()), Err(Refusal::from_number(number).unwrap()));
+        assert_eq!(left, lent);
+    }
+}
+
+#[test]
+fn entries_past_the_sizes_stay() {
+    let sizes = size(&example(), 0..3).unwrap();
+    let fit = exact(sizes);
+    let more = [3, 1, 2, 4, 1, 2];
+    let mut left = Lent::new(std::array::from_fn(|n| fit[n] + more[n]));
+    assert_eq!(list_into(&example(), 0..3, &mut left.lists()), Ok(sizes));
+    assert_eq!(lines_of(left.lists().view(sizes).unwrap()), expected());
+    assert_eq!(left.text.split_off(fit[0]), [0xee; 3]);
+    assert_eq!(left.ends.split_off(fit[1]), [0xeeee_eeee; 1]);
+    assert_eq!(left.kinds.split_off(fit[2]), [0xee; 2]);
+    assert_eq!(left.addresses.split_off(fit[3]), [0xeeee_eeee_eeee_eeee; 4]);
+    assert_eq!(left.marks.split_off(fit[4]), [0xeeee; 1]);
+    assert_eq!(left.lines.split_off(fit[5]), [0xeeee_eeee; 2]);
+}
+
+#[test]
+fn empty_ranges_list_nothing() {
+    for at in 0..=3 {
+        assert_eq!(size(&example(), at..at), Ok(Sizes::default()));
+        assert_eq!(list_into(&example(), at..at, &mut Lists::default()), Ok(Sizes::default()));
+        let listing = list(&example(), (at, at)).unwrap();
+        assert_eq!(listing.view().lines().count(), 0);
+        assert_eq!(listing.sizes(), Sizes::default());
+    }
+}
+
+#[test]
+fn empty_slices() {
+    assert_eq!(size(&[], 0..0), Err(Refusal::Header));
+    assert_eq!(list(&[], 0..0), Err(Refusal::Header));
+    assert_eq!(list_into(&[], 0..0, &mut Lists::default()), Err(Refusal::Header));
+    assert_eq!(list_into(&example(), 0..3, &mut Lists::default()), Err(Refusal::TextRoom));
+}
+
+#[test]
+fn parts_of_a_record() {
+    let last = list(&example(), 2..3).unwrap();
+    assert_eq!(lines_of(last.view()), expected()[3..]);
+    let middle = list(&example(), (1, 2)).unwrap();
+    assert_eq!(lines_of(middle.view()), [(Some(0x1004), 1, "eax = 5;".to_string())]);
+}
+
+#[test]
+fn threads_list_at_once() {
+    let workers: Vec<_> = (0..4).map(|_| std::thread::spawn(|| list(&example(), 0..3))).collect();
+    for worker in workers {
+        assert_eq!(lines_of(worker.join().unwrap().unwrap().view()), expected());
+    }
+}
+
+/// The deepest nest, listed by a thread with little stack.
+#[test]
+fn little_stack_suffices() {
+    let small = std::thread::Builder::new().stack_size(STACK);
+    let listing = small.spawn(|| list(&nest(), 0..200)).unwrap().join().unwrap().unwrap();
+    assert_eq!(listing.view().lines().map(|line| line.indent).max(), Some(253));
+}
+
+const STACK: usize = 256 * 1024;
+
+/// Sizes of another call, or lists that were changed, give no view.
+#[test]
+fn a_view_needs_lists_that_hold_together() {
+    let sizes = size(&example(), 0..3).unwrap();
+    let mut lent = Lent::new(exact(sizes));
+    list_into(&example(), 0..3, &mut lent.lists()).unwrap();
+    let wrong = [
+        Sizes { text: sizes.text - 1, ..sizes },
+        Sizes { tokens: sizes.tokens - 1, ..sizes },
+        Sizes { lines: sizes.lines - 1, ..sizes },
+        Sizes { text: usize::MAX, tokens: usize::MAX, lines: usize::MAX },
+    ];
+    wrong.into_iter().for_each(|sizes| assert!(lent.lists().view(sizes).is_none()));
+    assert!(Lent::new(exact(sizes)).lists().view(sizes).is_none());
+    assert!(View::of(b"ab", &[2, 1, 2], &[0, 0, 0], &[0], &[0], &[3]).is_none());
+    assert!(View::of(b"ab", &[2], &[8], &[0], &[0], &[1]).is_none());
+    assert!(View::of(b"ab", &[2], &[0], &[0], &[512], &[1]).is_none());
+    assert!(View::of(b"ab", &[2], &[0], &[], &[0], &[1]).is_none());
+    assert!(View::of(b"ab", &[2], &[0], &[0], &[0], &[1]).is_some());
+}

@@ -1,0 +1,117 @@
+//! The stored calls of crates/replay/stdin, made again by this crate: what they answer and leave is what was stored.
+//! docs/COMPARISON.md says the format.
+
+mod common;
+
+use cakirotu::{Refusal, Sizes};
+use common::Lent;
+
+/// A stored call.
+struct Case {
+    record: Vec<u8>,
+    lengths: [usize; 6],
+    no: u8,
+    sizes: Sizes,
+    range: (usize, usize),
+    sums: [u64; 6],
+}
+
+const HEAD: usize = 108;
+
+fn cases() -> Vec<Case> {
+    let file = concat!(env!("CARGO_MANIFEST_DIR"), "/../../crates/replay/stdin");
+    let bytes = std::fs::read(file).expect(file);
+    let (mut at, mut cases) = (4, Vec::new());
+    while at < bytes.len() {
+        let case = case(&bytes[at..]);
+        at += HEAD + case.record.len();
+        cases.push(case);
+    }
+    assert_eq!(cases.len(), u32_at(&bytes, 0));
+    cases
+}
+
+fn case(bytes: &[u8]) -> Case {
+    let [text, tokens, lines] = [32, 36, 40].map(|at| u32_at(bytes, at));
+    Case {
+        record: bytes[HEAD..HEAD + u32_at(bytes, 0)].to_vec(),
+        lengths: [4, 8, 12, 16, 20, 24].map(|at| u32_at(bytes, at)),
+        no: bytes[28],
+        sizes: Sizes { text, tokens, lines },
+        range: (u64_at(bytes, 44) as usize, u64_at(bytes, 52) as usize),
+        sums: [60, 68, 76, 84, 92, 100].map(|at| u64_at(bytes, at)),
+    }
+}
+
+fn u32_at(bytes: &[u8], at: usize) -> usize {
+    u32::from_le_bytes(bytes[at..at + 4].try_into().unwrap()) as usize
+}
+
+fn u64_at(bytes: &[u8], at: usize) -> u64 {
+    u64::from_le_bytes(bytes[at..at + 8].try_into().unwrap())
+}
+
+fn sums(l: &Lent) -> [u64; 6] {
+    [
+        sum(l.text.iter().map(|n| u64::from(*n))),
+        sum(l.ends.iter().map(|n| u64::from(*n))),
+        sum(l.kinds.iter().map(|n| u64::from(*n))),
+        sum(l.addresses.iter().flat_map(|n| [n & 0xffff_ffff, n >> 32])),
+        sum(l.marks.iter().map(|n| u64::from(*n))),
+        sum(l.lines.iter().map(|n| u64::from(*n))),
+    ]
+}
+
+fn sum(numbers: impl Iterator<Item = u64>) -> u64 {
+    numbers.fold(1, |h, x| (1_000_003 * h + x) % 4_294_967_311)
+}
+
+#[test]
+fn every_stored_call_answers_and_leaves_what_was_stored() {
+    let mut seen = [0; 15];
+    for (n, case) in cases().iter().enumerate() {
+        let mut lent = Lent::new(case.lengths);
+        let answer = cakirotu::list_into(&case.record, case.range, &mut lent.lists());
+        let stored = Refusal::from_number(case.no).map_or(Ok(case.sizes), Err);
+        assert_eq!(answer, stored, "case {n}");
+        assert_eq!(sums(&lent), case.sums, "case {n}");
+        seen[usize::from(case.no)] += 1;
+    }
+    assert_eq!(seen.iter().sum::<usize>(), 300);
+    assert!(seen.iter().all(|count| *count > 0), "a number is missing: {seen:?}");
+}
+
+/// `size` and `list` know no questions after 11, and agree with the stored call.
+#[test]
+fn size_and_list_agree_with_every_stored_call() {
+    for (n, case) in cases().iter().enumerate() {
+        let size = cakirotu::size(&case.record, case.range);
+        let list = cakirotu::list(&case.record, case.range.0..case.range.1);
+        assert_eq!(list.as_ref().map(|listing| listing.sizes()), size.as_ref().copied(), "case {n}");
+        match case.no {
+            0 => assert_eq!(size, Ok(case.sizes), "case {n}"),
+            1..=11 => assert_eq!(size.unwrap_err().number(), case.no, "case {n}"),
+            _ => assert!(size.is_ok(), "case {n}"),
+        }
+        let Ok(listing) = list else { continue };
+        let mut lent = Lent::new(common::exact(listing.sizes()));
+        assert_eq!(cakirotu::list_into(&case.record, case.range, &mut lent.lists()), Ok(listing.sizes()));
+        let view = lent.lists().view(listing.sizes()).map(|view| view.text().to_vec());
+        assert_eq!(view.as_deref(), Some(listing.view().text()), "case {n}");
+    }
+}
+
+/// Lines and tokens, put together again, are the whole text.
+#[test]
+fn lines_and_tokens_have_the_whole_text() {
+    for case in cases() {
+        let Ok(listing) = cakirotu::list(&case.record, case.range) else { continue };
+        let view = listing.view();
+        assert_eq!(view.lines().len(), listing.sizes().lines);
+        assert_eq!(view.lines().map(|line| line.tokens().len()).sum::<usize>(), listing.sizes().tokens);
+        let tokens: Vec<u8> = view.lines().flat_map(|line| line.tokens()).flat_map(|token| token.text.to_vec()).collect();
+        let lines: Vec<u8> = view.lines().flat_map(|line| line.text().to_vec()).collect();
+        assert_eq!(tokens, view.text());
+        assert_eq!(lines, view.text());
+    }
+}
