@@ -1,6 +1,6 @@
 -- What the exported function answers and leaves is what its definition says.
 -- The call's answer has the number and the sizes.
-use mathlib.Core.Path.{_≡_, sym, ap, subst, _∙_}
+use mathlib.Core.Path.{_≡_, ap, subst, _∙_}
 use mathlib.Core.List.{List, [], _∷_}
 use Prim.Native.Nat.{ℕ}
 use lib.ListN.{set}
@@ -15,18 +15,16 @@ use Rattle.abi.specs.Exported.{sizeList, answered, Exported, Sized}
 pub put-three : (e e₁ e₂ e₃ : List ℕ) (a b c : ℕ) → e₁ ≡ set e 0 a → e₂ ≡ set e₁ 1 b → e₃ ≡ set e₂ 2 c → e₃ ≡ put 0 (a ∷ b ∷ c ∷ []) e
 put-three e e₁ e₂ e₃ a b c p q r = r ∙ rw (q, p, put-cons, put-cons, put-cons, put-none)
 
-pub exported : (s : List ℕ) (from to : ℕ) (x x′ e e′ k k′ a a′ m m′ l l′ z z′ : List ℕ) (g r : Answer) → g ≡ r → Called s from to x x′ e e′ k k′ a a′ m m′ l l′ g
-    → z′ ≡ put 0 (sizeList r) z → Exported s from to x x′ e e′ k k′ a a′ m m′ l l′ z z′ (numberOf r)
-exported s from to x x′ e e′ k k′ a a′ m m′ l l′ z z′ g r h p q =
-    let i : r ≡ answered s from to x e k a m l = sym h ∙ p .answer in
+pub exported : (s : List ℕ) (from to : ℕ) (x x′ e e′ k k′ a a′ m m′ l l′ z z′ : List ℕ) (g : Answer) (n : ℕ) → Called s from to x x′ e e′ k k′ a a′ m m′ l l′ g
+    → n ≡ numberOf g → z′ ≡ put 0 (sizeList g) z → Exported s from to x x′ e e′ k k′ a a′ m m′ l l′ z z′ n
+exported s from to x x′ e e′ k k′ a a′ m m′ l l′ z z′ g n p h q =
+    let i : g ≡ answered s from to x e k a m l = p .answer in
     record {
-      number = ap numberOf i;
-      lists = subst (λ (g : Answer). Called s from to x x′ e e′ k k′ a a′ m m′ l l′ g) (h ∙ i) p;
+      number = h ∙ ap numberOf i;
+      lists = subst (λ (g : Answer). Called s from to x x′ e e′ k k′ a a′ m m′ l l′ g) i p;
       sizes = q ∙ ap (λ (g : Answer). put 0 (sizeList g) z) i;
     }
 
-pub sized : (s : List ℕ) (from to : ℕ) (z z′ : List ℕ) (g r : Answer) → g ≡ r → g ≡ answerFor (sizes s from to) (firstNo s from to)
-    → z′ ≡ put 0 (sizeList r) z → Sized s from to z z′ (numberOf r)
-sized s from to z z′ g r h p q =
-    let i : r ≡ answerFor (sizes s from to) (firstNo s from to) = sym h ∙ p in
-    record { number = ap numberOf i; sizes = q ∙ ap (λ (g : Answer). put 0 (sizeList g) z) i }
+pub sized : (s : List ℕ) (from to : ℕ) (z z′ : List ℕ) (g : Answer) (n : ℕ) → g ≡ answerFor (sizes s from to) (firstNo s from to)
+    → n ≡ numberOf g → z′ ≡ put 0 (sizeList g) z → Sized s from to z z′ n
+sized s from to z z′ g n i h q = record { number = h ∙ ap numberOf i; sizes = q ∙ ap (λ (g : Answer). put 0 (sizeList g) z) i }

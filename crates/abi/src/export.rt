@@ -6,7 +6,8 @@ use pseudo::size::size;
 ghost use mathlib.Core.List.{[], _∷_};
 ghost use mathlib.Core.Path.{_≡_};
 ghost use Rattle.lists.specs.Put.{put};
-ghost use Rattle.abi.specs.Exported.{Exported, Sized};
+ghost use Rattle.pseudo.specs.Called.{numberOf};
+ghost use Rattle.abi.specs.Exported.{sizeList, Exported, Sized};
 
 // The three sizes from the start of the list on.
 fn put_sizes(sizes: &mut [u64], text: u64, tokens: u64, lines: u64)
@@ -15,6 +16,23 @@ fn put_sizes(sizes: &mut [u64], text: u64, tokens: u64, lines: u64)
     store_u64(sizes, 0, text);
     store_u64(sizes, 1, tokens);
     store_u64(sizes, 2, lines);
+}
+
+// The sizes of an answer, zeros with a number; answers the number.
+fn put_answer(sizes: &mut [u64], answer: Answer) -> u8
+    ensures number { λ r. ⌜ r ≡ numberOf answer ⌝ }
+    ensures sizes { λ _. ⌜ now (sizes .exit) ≡ put 0 (sizeList answer) (now (sizes .entry)) ⌝ }
+{
+    match answer {
+        Answer::Listed(z) => {
+            put_sizes(sizes, z.text as u64, z.tokens as u64, z.lines as u64);
+            0
+        }
+        Answer::No(n) => {
+            put_sizes(sizes, 0, 0, 0);
+            n
+        }
+    }
 }
 
 // Lists the blocks from `from` up to `to` of a record: answers 0, or the number of the first question that gets a no. Nothing is
@@ -37,16 +55,8 @@ pub extern "C" fn cakirotu_list(
         (now (addresses .entry)) (now (addresses .exit)) (now (marks .entry)) (now (marks .exit)) (now (lines .entry)) (now (lines .exit))
         (now (sizes .entry)) (now (sizes .exit)) r ⌝ }
 {
-    match list(rec, from, to, text, ends, kinds, addresses, marks, lines) {
-        Answer::Listed(z) => {
-            put_sizes(sizes, z.text as u64, z.tokens as u64, z.lines as u64);
-            0
-        }
-        Answer::No(n) => {
-            put_sizes(sizes, 0, 0, 0);
-            n
-        }
-    }
+    let answer = list(rec, from, to, text, ends, kinds, addresses, marks, lines);
+    put_answer(sizes, answer)
 }
 
 // The sizes of the listing of the blocks from `from` up to `to`: answers 0, or the number of the first question before 12 that gets a
@@ -55,14 +65,5 @@ pub extern "C" fn cakirotu_list(
 pub extern "C" fn cakirotu_size(rec: &[u8], from: usize, to: usize, sizes: &mut [u64]) -> u8
     ensures { λ r. ⌜ Sized (now (rec .entry)) from to (now (sizes .entry)) (now (sizes .exit)) r ⌝ }
 {
-    match size(rec, from, to) {
-        Answer::Listed(z) => {
-            put_sizes(sizes, z.text as u64, z.tokens as u64, z.lines as u64);
-            0
-        }
-        Answer::No(n) => {
-            put_sizes(sizes, 0, 0, 0);
-            n
-        }
-    }
+    put_answer(sizes, size(rec, from, to))
 }
