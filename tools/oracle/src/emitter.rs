@@ -39,6 +39,18 @@ pub fn insns(record: &Record) -> (Vec<PseudoLine>, u64) {
     (out, tag)
 }
 
+/// The whole range. A function of its own, which nothing calls again inside: `tools/bench count` counts what runs in it.
+#[inline(never)]
+fn emit_whole(
+    ctx: &mut Ctx,
+    blocks: &BTreeMap<u64, (Vec<Ins>, Vec<crate::model::Edge>)>,
+    order: &[u64],
+    indent: u8,
+    out: &mut Vec<PseudoLine>,
+) {
+    emit_range(ctx, blocks, order, 0, order.len(), indent, out, &mut BTreeSet::new());
+}
+
 /// How long `times` listings of the whole range take, with the Rust's own structures made beforehand.
 pub fn time(record: &Record, times: usize) -> std::time::Duration {
     let binary = Binary::new(record);
@@ -50,7 +62,7 @@ pub fn time(record: &Record, times: usize) -> std::time::Duration {
         let mut out = Vec::new();
         ctx.written.clear();
         ctx.pushes.clear();
-        emit_range(&mut ctx, &blocks, &order, 0, order.len(), record.indent, &mut out, &mut BTreeSet::new());
+        emit_whole(&mut ctx, &blocks, &order, record.indent, &mut out);
         std::hint::black_box(&out);
     }
     began.elapsed()
