@@ -8,6 +8,7 @@ use native.Mathlib.Numerals.{add-one}
 use native.Mathlib.Omega.{arith}
 use lib.ListN.{length, getD, drop, set, drop-of-length-le, List·getD-map, List·getD-eq-default}
 use lib.Seq.{drop-cons}
+use borrow.Author.Tests.{ne-eqb}
 use Rattle.lists.specs.Entries.{tab, entry}
 use Rattle.tokens.specs.Token.{Token}
 use Rattle.tokens.specs.Sheet.{Sheet, sheet, pushes, ahead, started}
@@ -15,7 +16,7 @@ use Rattle.tokens.specs.Page.{Page, page, lineOn, linesOn}
 use Rattle.tokens.specs.declared.pen.Pen.{Pen}
 use Rattle.record.specs.declared.header.Header.{Header}
 use Rattle.record.specs.Layout.{bodiesOf}
-use Rattle.record.specs.Body.{bodyAt}
+use Rattle.record.specs.Body.{bodyAt, mnemonicOf}
 use Rattle.structure.specs.Plan.{What}
 use Rattle.structure.specs.Plan.What.{insn-line}
 use Rattle.structure.specs.Flow.{firstIn}
@@ -24,7 +25,7 @@ use Rattle.flow.specs.Rows.{blockRows}
 use Rattle.line.specs.declared.print.Site.{Site}
 use Rattle.line.specs.Condition.{bodyOf}
 use Rattle.line.specs.Arguments.{writtenAfter}
-use Rattle.line.specs.Forms.{formOf, rowOf, insnForm, returnsValue}
+use Rattle.line.specs.Forms.{formOf, rowOf, insnForm, returnForm, returnsValue}
 use Rattle.line.specs.Lines.{whats, whatAt, lineIn}
 use Rattle.line.specs.Print.{piecesTokens, lineTokens, maskAfter, printed}
 
@@ -39,9 +40,26 @@ module _ (h : Header) (s : List ℕ) (n : ℕ) where
       let f : What → ℕ = λ w. formOf h s w first i in
       entry (λ k. 40 + k) 8 (map f whats) (f insn-line) refl n l ∙ List·getD-map f whats n insn-line
 
-  pub form-late : (first i form : ℕ) (value : Bool) (bodies b : List ℕ) → 8 ≤ n → bodies ≡ bodiesOf h s → value ≡ returnsValue bodies first i → b ≡ bodyAt bodies i
+  form-late : (first i form : ℕ) (value : Bool) (bodies b : List ℕ) → 8 ≤ n → bodies ≡ bodiesOf h s → value ≡ returnsValue bodies first i → b ≡ bodyAt bodies i
       → form ≡ insnForm value b → form ≡ formOf h s (whatAt n) first i
   form-late first i form value bodies b l p q r t = rw (what-late n l, t, q, r, p)
+
+  -- only a ret's form asks whether a value is left
+  ret-form : (value : Bool) (b : List ℕ) → mnemonicOf b ≡ 24 → returnForm value ≡ insnForm value b
+  unfolding insnForm
+  ret-form value b e = rw e
+
+  other-form : (value : Bool) (b : List ℕ) → (mnemonicOf b ≡ 24 → ⊥) → insnForm false b ≡ insnForm value b
+  unfolding insnForm
+  other-form value b e = rw (ne-eqb (mnemonicOf b) 24 e)
+
+  pub form-ret : (first i form m : ℕ) (value : Bool) (bodies b : List ℕ) → 8 ≤ n → bodies ≡ bodiesOf h s → value ≡ returnsValue bodies first i → b ≡ bodyAt bodies i
+      → m ≡ mnemonicOf b → m ≡ 24 → form ≡ returnForm value → form ≡ formOf h s (whatAt n) first i
+  form-ret first i form m value bodies b l p q r t u v = form-late first i form value bodies b l p q r (v ∙ ret-form value b (sym t ∙ u))
+
+  pub form-other : (first i form m : ℕ) (bodies b : List ℕ) → 8 ≤ n → bodies ≡ bodiesOf h s → b ≡ bodyAt bodies i
+      → m ≡ mnemonicOf b → (m ≡ 24 → ⊥) → form ≡ insnForm false b → form ≡ formOf h s (whatAt n) first i
+  form-other first i form m bodies b l p r t u v = form-late first i form _ bodies b l p refl r (v ∙ other-form _ b (λ e. u (t ∙ e)))
 
   pub mask-early : (mask i : ℕ) → n < 8 → mask ≡ maskAfter h s mask (whatAt n) i
   unfolding whatAt

@@ -162,7 +162,7 @@ fn logic_form(m: u8, body: &[u8]) -> u8
     plain_form(m)
 }
 
-fn return_form(value: bool) -> u8
+pub fn return_form(value: bool) -> u8
     ensures { λ r. ⌜ r ≡ returnForm value ⌝ }
 {
     if value { 27 } else { 28 }

@@ -1,6 +1,7 @@
 // Planned lines: each by its code, with the registers written before it.
 use crate::arguments::written_after;
 use crate::forms::insn_form;
+use crate::forms::return_form;
 use crate::forms::returns_value;
 use crate::print::Site;
 use crate::print::body_of;
@@ -8,6 +9,7 @@ use crate::print::push_row;
 use lists::reads::from;
 use lists::reads::u16_in;
 use record::body::body_at;
+use record::body::mnemonic;
 use record::header::Header;
 use record::layout::bodies_at;
 use record::layout::size;
@@ -31,7 +33,7 @@ ghost use Rattle.line.specs.Forms.{formOf};
 ghost use Rattle.line.specs.Lines.{whatAt, lineIn};
 ghost use Rattle.line.specs.Print.{lineTokens, maskAfter, printed};
 
-// The form of a line of instruction i, in the block whose first instruction is `first`.
+// The form of a line of instruction i, in the block whose first instruction is `first`. Only a ret asks whether a value is left.
 fn line_form(isa: &[u8], rec: &[u8], h: Header, what: u8, first: u16, i: u16) -> u8
     requires { ⌜ now isa ≡ isaBytes ⌝ }
     ensures { λ r. ⌜ r ≡ formOf h (now (rec .entry)) (whatAt what) first i ⌝ }
@@ -40,11 +42,11 @@ fn line_form(isa: &[u8], rec: &[u8], h: Header, what: u8, first: u16, i: u16) ->
         return 40 + what;
     }
     let bodies = from(rec, bodies_at(h));
-    insn_form(
-        isa,
-        returns_value(isa, bodies, first, i),
-        body_at(bodies, i),
-    )
+    let body = body_at(bodies, i);
+    if mnemonic(body) == 24 {
+        return return_form(returns_value(isa, bodies, first, i));
+    }
+    insn_form(isa, false, body)
 }
 
 // The registers written behind a line: only an instruction's own line changes them.

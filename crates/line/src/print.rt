@@ -25,7 +25,7 @@ use x86::conditions::negate;
 ghost use mathlib.Core.Bool.{false};
 ghost use mathlib.Core.List.{[], _∷_};
 ghost use mathlib.Core.Path.{_≡_};
-ghost use Prim.Native.Nat.{_≤_, _<_};
+ghost use Prim.Native.Nat.{_≤_, _<_, _-_};
 ghost use Rattle.tokens.specs.Sheet.{sheet, pushes};
 ghost use Rattle.x86.specs.Table.{isaBytes};
 ghost use Rattle.operand.specs.Lent.{Lent};
@@ -362,61 +362,14 @@ fn push_special(
     )
 }
 
-// One piece.
-fn push_piece(
-    text: &mut [u8],
-    ends: &mut [u32],
-    kinds: &mut [u8],
-    pen: Pen,
-    words: &[u8],
-    isa: &[u8],
-    rec: &[u8],
-    h: Header,
-    site: Site,
-    piece: u8,
-) -> Pen
-    requires { ⌜ Lent (now words) (now isa) h (now rec) ⌝ }
-    requires { ⌜ pen .plain ≡ false ⌝ }
-    ensures { λ r. ⌜ sheet (now (text .exit)) (now (ends .exit)) (now (kinds .exit)) r
-        ≡ pushes (sheet (now (text .entry)) (now (ends .entry)) (now (kinds .entry)) pen) (pieceTokens h (now (rec .entry)) site (pieceOf piece)) ⌝ }
+// The operand that a piece below 136 stands for.
+fn slot_of(piece: u8) -> u8
+    ensures { λ r. ⌜ r ≡ piece - 128 ⌝ }
 {
-    if piece < 102 {
-        return push_word(text, ends, kinds, pen, words, piece);
-    }
-    let body = body_of(rec, h, site.at);
-    if piece < 128 {
-        return op(text, ends, kinds, pen, words, isa, rec, h, body, 0);
-    }
-    if piece < 136 {
-        return op(
-            text,
-            ends,
-            kinds,
-            pen,
-            words,
-            isa,
-            rec,
-            h,
-            body,
-            piece - 128,
-        );
-    }
-    push_special(
-        text,
-        ends,
-        kinds,
-        pen,
-        words,
-        isa,
-        rec,
-        h,
-        site,
-        body,
-        piece,
-    )
+    if piece < 128 { 0 } else { piece - 128 }
 }
 
-// The row of a form.
+// The row of a form: words and operands are most of its pieces, so they are asked for here.
 pub fn push_row(
     text: &mut [u8],
     ends: &mut [u32],
@@ -437,10 +390,21 @@ pub fn push_row(
         ≡ pushes (sheet (now (text .entry)) (now (ends .entry)) (now (kinds .entry)) pen) (piecesTokens h (now (rec .entry)) site (rowOf form)) ⌝ }
 {
     let codes = row_codes(rows, form);
+    let body = body_of(rec, h, site.at);
     let mut p = pen;
     let mut i = 0;
     while i < codes.len() {
-        p = push_piece(text, ends, kinds, p, words, isa, rec, h, site, codes[i]);
+        let piece = codes[i];
+        if piece < 102 {
+            p = push_word(text, ends, kinds, p, words, piece);
+        } else {
+            if piece < 136 {
+                let k = slot_of(piece);
+                p = op(text, ends, kinds, p, words, isa, rec, h, body, k);
+            } else {
+                p = push_special(text, ends, kinds, p, words, isa, rec, h, site, body, piece);
+            }
+        }
         i += 1;
     }
     p

@@ -3,10 +3,12 @@ use lists::reads::from;
 use lists::reads::u8_at;
 use lists::reads::u16_at;
 use lists::reads::u64_at;
-use x86::registers::register_exists;
+use x86::registers::register_named;
+use x86::table::isa;
 ghost use mathlib.Core.Path.{_≡_};
 ghost use Prim.Native.Nat.{_-_, _*_, _<_};
 ghost use lib.ListN.{length};
+ghost use Rattle.x86.specs.Table.{isaBytes};
 ghost use Rattle.record.specs.Body.{addressAt, bodyAt, mnemonicOf, conditionOf, operandCount, skipMark, segmentOf, baseOf, indexOf, scaleOf, memorySize, memoryAddress, operandKind, registerByte, operandRegister, operandNumber, nameByte, nameGoesOn, conditionOk, scaleOk, operandOk, fixedOk, isName, isZeros, operandsOk, bodyOk, bodiesOk};
 
 pub fn address_at(addresses: &[u8], i: u16) -> u64
@@ -120,22 +122,24 @@ fn scale_ok(k: u8) -> bool
     (k == 1) | (k == 2) | (k == 4) | (k == 8)
 }
 
-fn fixed_ok(body: &[u8]) -> bool
+fn fixed_ok(isa: &[u8], body: &[u8]) -> bool
+    requires { ⌜ now isa ≡ isaBytes ⌝ }
     ensures { λ r. ⌜ r ≡ fixedOk (now (body .entry)) ⌝ }
 {
     condition_ok(mnemonic(body), condition_code(body))
         & (op_count(body) <= 5)
         & (skip_mark(body) <= 1)
-        & register_exists(memory_segment(body) as u16)
-        & register_exists(memory_base(body) as u16)
-        & register_exists(memory_index(body) as u16)
+        & register_named(isa, memory_segment(body))
+        & register_named(isa, memory_base(body))
+        & register_named(isa, memory_index(body))
         & scale_ok(memory_index_scale(body))
 }
 
-fn operand_ok(body: &[u8], i: u8) -> bool
+fn operand_ok(isa: &[u8], body: &[u8], i: u8) -> bool
+    requires { ⌜ now isa ≡ isaBytes ⌝ }
     ensures { λ r. ⌜ r ≡ operandOk (now (body .entry)) i ⌝ }
 {
-    (op_kind(body, i) <= 11) & register_exists(register_byte(body, i) as u16)
+    (op_kind(body, i) <= 11) & register_named(isa, register_byte(body, i))
 }
 
 fn name_byte(c: u8) -> bool
@@ -158,34 +162,31 @@ fn is_name(name: &[u8]) -> bool
     name_byte(u8_at(name, 0)) & ok
 }
 
+// Eight bytes are zeros where their number is.
 fn is_zeros(name: &[u8]) -> bool
     ensures { λ r. ⌜ r ≡ isZeros (now (name .entry)) ⌝ }
 {
-    let mut ok = true;
-    let mut k: usize = 0;
-    while k < 24 {
-        ok = ok & (u8_at(name, k) == 0);
-        k += 1;
-    }
-    ok
+    (u64_at(name, 0) == 0) & (u64_at(name, 8) == 0) & (u64_at(name, 16) == 0)
 }
 
-fn operands_ok(body: &[u8]) -> bool
+fn operands_ok(isa: &[u8], body: &[u8]) -> bool
+    requires { ⌜ now isa ≡ isaBytes ⌝ }
     ensures { λ r. ⌜ r ≡ operandsOk (now (body .entry)) ⌝ }
 {
     let mut ok = true;
     let mut i: u8 = 0;
     while i < 5 {
-        ok = ok & operand_ok(body, i);
+        ok = ok & operand_ok(isa, body, i);
         i += 1;
     }
     ok
 }
 
-fn body_ok(body: &[u8]) -> bool
+fn body_ok(isa: &[u8], body: &[u8]) -> bool
+    requires { ⌜ now isa ≡ isaBytes ⌝ }
     ensures { λ r. ⌜ r ≡ bodyOk (now (body .entry)) ⌝ }
 {
-    let fixed = fixed_ok(body) & operands_ok(body);
+    let fixed = fixed_ok(isa, body) & operands_ok(isa, body);
     let name = from(body, 68);
     if mnemonic(body) == 0 {
         return fixed & is_name(name);
@@ -197,10 +198,12 @@ fn body_ok(body: &[u8]) -> bool
 pub fn bodies_ok(bodies: &[u8], instructions: u16) -> bool
     ensures { λ r. ⌜ r ≡ bodiesOk (now (bodies .entry)) instructions ⌝ }
 {
+    let table = isa();
+    let isa: &[u8] = &table;
     let mut ok = true;
     let mut i: u16 = 0;
     while i < instructions {
-        ok = ok & body_ok(body_at(bodies, i));
+        ok = ok & body_ok(isa, body_at(bodies, i));
         i += 1;
     }
     ok

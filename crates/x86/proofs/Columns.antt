@@ -1,7 +1,7 @@
 -- The lent table holds at each number's place what the definitions say of that number.
 -- One test a column, which antt computes over all of its numbers, and one law that turns such a test into the rule at each number.
 use mathlib.Core.Path.{_≡_, refl, ap, ap₂, sym}
-use mathlib.Core.Bool.{Bool, true, false}
+use mathlib.Core.Bool.{Bool, true, false, not, Bool·beq}
 use mathlib.Core.List.{List, [], _∷_}
 use Prim.Native.Nat.{ℕ, _+_, _*_, _≤_, _<_}
 use native.Mathlib.Decide.{decLt}
@@ -12,11 +12,11 @@ use lib.ListN.{getD}
 use Rattle.lists.specs.Choice.{pick, allBelow}
 use Rattle.x86.specs.Conditions.{conditionNames, conditionName, relationAfterCmp, relationAfterTest, relationAfterOther, printsUnsigned, negate}
 use Rattle.x86.specs.Mnemonics.{mnemonicNames, mnemonicName, writesFlags}
-use Rattle.x86.specs.Registers.{registerNames, registerName, fullRegister, registerSize}
+use Rattle.x86.specs.Registers.{registerNames, registerName, registerExists, fullRegister, registerSize}
 use Rattle.x86.specs.Table.{isaBytes, bit, textAt}
 use Rattle.x86.specs.Words.{sameWord}
-use Rattle.x86.proofs.Below.{both-left, both-right, below-at}
-use Rattle.x86.proofs.Past.{whole-itself, no-size, no-flags, none-after-cmp, none-after-test, none-after-other, not-unsigned, stays}
+use Rattle.x86.proofs.Below.{both-left, both-right, below-at, beq→eq}
+use Rattle.x86.proofs.Past.{not-there, whole-itself, no-size, no-flags, none-after-cmp, none-after-test, none-after-other, not-unsigned, stays}
 
 same-eq : (w v : List ℕ) → T (sameWord w v) → w ≡ v
 same-eq [] [] t = refl
@@ -37,6 +37,10 @@ column at f d n ok past t e k =
       | yes h ↦ rw (lt-ltb k n h, e) (eqb→eq _ _ (below-at (byteAt at f) n ok k h))
       | no h ↦ let g : n ≤ k = omega arith in rw (le-ltb k n g) (sym (past k g))
     ]
+
+-- a test of the name at each register's place: it has one just where the register exists
+abbrev named : ℕ → Bool
+named r = Bool·beq (not (eqb (getD isaBytes (0 + 8 * r) 0) 0)) (registerExists r)
 
 -- a test of the text at each number's place
 abbrev spells : (ℕ → ℕ) → (ℕ → List ℕ) → ℕ → Bool
@@ -59,6 +63,14 @@ module _ (t : List ℕ) (e : t ≡ isaBytes) where
   pub register-spelt : (r : ℕ) → r < 160 → textAt t (8 * r) ≡ registerName r
   unfolding isaBytes registerNames registerName
   register-spelt = texts (λ r. 8 * r) registerName 160 tt t e
+
+  pub register-named : (r : ℕ) → not (eqb (pick (ltb r 160) (getD t (0 + 8 * r) 0) 0) 0) ≡ registerExists r
+  unfolding isaBytes registerNames registerName registerExists
+  register-named r =
+      elim (decLt r 160) [
+        | yes h ↦ rw (lt-ltb r 160 h, e) (beq→eq _ _ (below-at named 160 tt r h))
+        | no h ↦ let g : 160 ≤ r = omega arith in rw (le-ltb r 160 g, not-there r g)
+      ]
 
   pub register-full : (r : ℕ) → pick (ltb r 160) (getD t (6 + 8 * r) 0) r ≡ fullRegister r
   unfolding isaBytes registerNames registerName fullRegister

@@ -6,14 +6,6 @@ use Rattle.record.specs.Body.{bodyOk}
 use borrow.Author.Needs.{needs}
 use Rattle.record.proofs.body.body_ok.Statement.{statement}
 use Rattle.record.proofs.body.body_ok.Tie as tie
-use Rattle.record.proofs.body.body_ok.Reads as reads
-use Rattle.record.proofs.body.body_ok.Lts as lts
-use Rattle.lists.proofs.reads.from.Reads as from-reads
-use Rattle.record.proofs.body.fixed_ok.Reads as fixed-ok-reads
-use Rattle.record.proofs.body.is_name.Reads as is-name-reads
-use Rattle.record.proofs.body.is_zeros.Reads as is-zeros-reads
-use Rattle.record.proofs.body.mnemonic.Reads as mnemonic-reads
-use Rattle.record.proofs.body.operands_ok.Reads as operands-ok-reads
 
 fixed-ok-requires : tie.Need-fixed-ok-requires
 fixed-ok-requires c κs = search needs
@@ -32,18 +24,14 @@ is-name-requires c κs = search needs
 
 returns : tie.Need-returns
 unfolding bodyOk
-returns c =
-    let o = c .before .before .before .before in
-    simp (o .before .fixed-ok .ensures, o .operands-ok .ensures, sym (c .before .before .mnemonic .ensures), eq-eqb _ _ (c .before .if1 .taken), c .is-name .ensures, c .before .before .before .from .ensures .0)
+returns c = simp ((c .before .before .before .before .before .fixed-ok) .ensures, (c .before .before .before .before .operands-ok) .ensures, sym ((c .before .before .mnemonic) .ensures), eq-eqb _ _ ((c .before .if1) .taken), (c .is-name) .ensures, (c .before .before .before .from) .ensures .0)
 
 is-zeros-requires : tie.Need-is-zeros-requires
 is-zeros-requires c κs = search needs
 
 returns-2 : tie.Need-returns-2
 unfolding bodyOk
-returns-2 c =
-    let o = c .before .before .before .before in
-    simp (o .before .fixed-ok .ensures, o .operands-ok .ensures, sym (c .before .before .mnemonic .ensures), ne-eqb _ _ (c .before .if1 .left), c .is-zeros .ensures, c .before .before .before .from .ensures .0)
+returns-2 c = simp ((c .before .before .before .before .before .fixed-ok) .ensures, (c .before .before .before .before .operands-ok) .ensures, sym ((c .before .before .mnemonic) .ensures), ne-eqb _ _ ((c .before .if1) .left), (c .is-zeros) .ensures, (c .before .before .before .from) .ensures .0)
 
 pub body-ok-spec : {M : Type 1} → statement M
 body-ok-spec =

@@ -1,49 +1,48 @@
 -- `is_zeros` meets its contract.
--- The invariant: so far every byte is zero, or `ok` is false.
-use mathlib.Core.Path.{_≡_}
-use Prim.Native.Nat.{ℕ, _≤_, _-_}
+-- A number is zero where its two halves are; halved down to bytes, the three words are the 24 bytes.
+use mathlib.Core.Path.{_≡_, refl}
+use mathlib.Core.Bool.{_&&_, and-assoc, and-false, and-true}
+use mathlib.Core.List.{List}
+use Prim.Native.Nat.{ℕ, zero, suc, _+_, _*_, _≤_}
+use native.Mathlib.Nat.{zero-mul, add-zero, suc-mul}
 use native.Mathlib.Omega.{arith}
-use borrow.Author.Needs.{needs}
-use Rattle.lists.specs.Choice.{allBelow}
-use Rattle.lists.specs.Below.{all-more}
+use borrow.Author.Tests.{ne-eqb}
 use lib.Dec.{eqb}
-use Rattle.lists.specs.Bytes.{u8At}
+use Rattle.lists.specs.Bytes.{u64At}
 use Rattle.record.specs.Body.{isZeros}
+use borrow.Author.Needs.{needs}
 use Rattle.record.proofs.body.is_zeros.Statement.{statement}
 use Rattle.record.proofs.body.is_zeros.Tie as tie
-use Rattle.record.proofs.body.is_zeros.Reads as reads
-use Rattle.record.proofs.body.is_zeros.Lts as lts
-use Rattle.lists.proofs.reads.u8_at.Reads as u8-at-reads
 
-abbrev Inv-loop : tie.InvT-loop
-Inv-loop name ok₀ k₀ ok k = (k ≤ 24) × (ok ≡ allBelow (λ j. eqb (u8At name j) 0) k)
+-- a number of two halves is zero where both are
+zero-both : (k a b : ℕ) → 1 ≤ k → eqb (a + b * k) 0 ≡ (eqb a 0 && eqb b 0)
+zero-both k a zero h = rw (zero-mul, add-zero, and-true)
+zero-both k a (suc b) h = rw (suc-mul, ne-eqb (suc b) 0 (omega arith), and-false) (ne-eqb (a + (b * k + k)) 0 (omega arith))
 
-abbrev μ-loop : tie.MeasureT-loop
-μ-loop name ok₀ k₀ ok k = 24 - k
+bytes-zero : (a b : ℕ) → eqb (a + b * 256) 0 ≡ (eqb a 0 && eqb b 0)
+bytes-zero a b = zero-both 256 a b (omega arith)
 
-loop-holds : tie.Need-loop-holds Inv-loop μ-loop
-loop-holds c = search needs
+pairs-zero : (a b : ℕ) → eqb (a + b * 65536) 0 ≡ (eqb a 0 && eqb b 0)
+pairs-zero a b = zero-both 65536 a b (omega arith)
 
-u8-at-requires : tie.Need-u8-at-requires Inv-loop μ-loop
-u8-at-requires c κs = search needs
+fours-zero : (a b : ℕ) → eqb (a + b * 4294967296) 0 ≡ (eqb a 0 && eqb b 0)
+fours-zero a b = zero-both 4294967296 a b (omega arith)
 
-add-k : tie.Need-add-k Inv-loop μ-loop
-add-k c = search needs
-
-loop-less : tie.Need-loop-less Inv-loop μ-loop
-loop-less c = search needs
-
-loop-again : tie.Need-loop-again Inv-loop μ-loop
-loop-again c = (search needs, simp (all-more, c .before .before .loop .inv .1, c .u8-at .ensures .0))
-
-returns : tie.Need-returns Inv-loop μ-loop
+words-zero : (s : List ℕ) → ((eqb (u64At s 0) 0 && eqb (u64At s 8) 0) && eqb (u64At s 16) 0) ≡ isZeros s
 unfolding isZeros
-returns c =
-    let l = c .before in
-    let e : l .loop .k ≡ 24 = omega arith in
-    simp (l .loop .inv .1, e)
+words-zero s = simp (fours-zero, pairs-zero, bytes-zero, and-assoc)
+
+u64-at-requires : tie.Need-u64-at-requires
+u64-at-requires c κs = search needs
+
+u64-at-requires-2 : tie.Need-u64-at-requires-2
+u64-at-requires-2 c κs = search needs
+
+u64-at-requires-3 : tie.Need-u64-at-requires-3
+u64-at-requires-3 c κs = search needs
+
+returns : tie.Need-returns
+returns c = simp ((c .before .before .u64-at) .ensures .0, (c .before .u64-at2) .ensures .0, (c .u64-at3) .ensures .0) (words-zero _)
 
 pub is-zeros-spec : {M : Type 1} → statement M
-is-zeros-spec =
-    tie.close
-    (tie.spec Inv-loop μ-loop loop-holds u8-at-requires add-k loop-less loop-again returns)
+is-zeros-spec = tie.close (tie.spec u64-at-requires u64-at-requires-2 u64-at-requires-3 returns)

@@ -3,21 +3,18 @@
 use mathlib.Core.Path.{_≡_}
 use Prim.Native.Nat.{ℕ, _≤_, _-_}
 use native.Mathlib.Omega.{arith}
-use borrow.Author.Needs.{needs}
 use Rattle.lists.specs.Choice.{allBelow}
 use Rattle.lists.specs.Below.{all-more}
 use Rattle.record.specs.Body.{operandOk, operandsOk}
+use borrow.Author.Needs.{needs}
 use Rattle.record.proofs.body.operands_ok.Statement.{statement}
 use Rattle.record.proofs.body.operands_ok.Tie as tie
-use Rattle.record.proofs.body.operands_ok.Reads as reads
-use Rattle.record.proofs.body.operands_ok.Lts as lts
-use Rattle.record.proofs.body.operand_ok.Reads as operand-ok-reads
 
 abbrev Inv-loop : tie.InvT-loop
-Inv-loop body ok₀ i₀ ok i = (i ≤ 5) × (ok ≡ allBelow (operandOk body) i)
+Inv-loop isa body ok₀ i₀ ok i = (i ≤ 5) × (ok ≡ allBelow (operandOk body) i)
 
 abbrev μ-loop : tie.MeasureT-loop
-μ-loop body ok₀ i₀ ok i = 5 - i
+μ-loop isa body ok₀ i₀ ok i = 5 - i
 
 loop-holds : tie.Need-loop-holds Inv-loop μ-loop
 loop-holds c = search needs
@@ -32,7 +29,7 @@ loop-less : tie.Need-loop-less Inv-loop μ-loop
 loop-less c = search needs
 
 loop-again : tie.Need-loop-again Inv-loop μ-loop
-loop-again c = (search needs, simp (all-more, c .before .before .loop .inv .1, c .operand-ok .ensures))
+loop-again c = (search needs, simp (all-more, (c .before .before .loop) .inv .1, (c .operand-ok) .ensures))
 
 returns : tie.Need-returns Inv-loop μ-loop
 unfolding operandsOk
