@@ -1,5 +1,6 @@
 pub mod Flow
 pub mod Shape
+pub mod Ends
 pub mod Plan
 pub mod Placed
 pub mod Demand

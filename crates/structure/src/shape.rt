@@ -1,4 +1,5 @@
 // What stands at a place of a range: a do-loop, an if-region, or a plain block.
+use crate::ends::search_end;
 use crate::flow::Place;
 use crate::flow::branch_to;
 use crate::flow::ending_in;
@@ -10,6 +11,7 @@ ghost use mathlib.Core.Path.{_≡_};
 ghost use Prim.Native.Nat.{_+_, _-_, _<_};
 ghost use lib.Dec.{ltb};
 ghost use Rattle.structure.specs.Flow.{closesLoop, singleEntry, escapes};
+ghost use Rattle.structure.specs.Ends.{Ends};
 ghost use Rattle.structure.specs.Shape.{lastFrom, opensRegion, regionAt, shapeAt};
 
 // A place that a search found.
@@ -26,10 +28,11 @@ pub enum Shape {
 }
 
 // The last block from place i on, before `to`, that closes a loop to i.
-pub fn last_loop(blocks: &[u16], edges: &[u16], i: Place, to: Place) -> Found
+pub fn last_loop(blocks: &[u16], edges: &[u16], ends: &[u16], i: Place, to: Place) -> Found
+    requires { ⌜ Ends (now blocks) (now edges) (i .0) (to .0) (now ends) ⌝ }
     ensures { λ r. ⌜ r ≡ lastFrom (closesLoop (now (blocks .entry)) (now (edges .entry)) (i .0)) (i .0) (to .0 - i .0) ⌝ }
 {
-    let mut j = to.0;
+    let mut j = search_end(ends, i, to);
     while i.0 < j {
         j -= 1;
         if closes_loop(blocks, edges, i, Place(j)) {
@@ -120,15 +123,17 @@ fn region_at(
 pub fn shape_at(
     blocks: &[u16],
     edges: &[u16],
+    ends: &[u16],
     starts: &[u8],
     targets: &[u8],
     count: u16,
     i: Place,
     to: Place,
 ) -> Shape
+    requires { ⌜ Ends (now blocks) (now edges) (i .0) (to .0) (now ends) ⌝ }
     ensures { λ r. ⌜ r ≡ shapeAt (now (blocks .entry)) (now (edges .entry)) (now (starts .entry)) (now (targets .entry)) count (i .0) (to .0) ⌝ }
 {
-    let found = last_loop(blocks, edges, i, to);
+    let found = last_loop(blocks, edges, ends, i, to);
     match found {
         Found::At(j) => {
             if is_loop(blocks, edges, count, i, Place(j)) {
