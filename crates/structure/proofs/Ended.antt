@@ -11,10 +11,13 @@ use lib.Dec.{eqb}
 use lib.ListN.{length, getD, set, length-set}
 use lib.Seq.{getD-set-same, getD-set-other}
 use borrow.Author.Tests.{ne-eqb}
-use Rattle.structure.specs.Flow.{edgeTo, edgeKind, trueEdgeTo, hasEdge, hasCondition, closesLoop}
+use Rattle.lists.specs.Choice.{anyBelow}
+use Rattle.lists.specs.Below.{any-more}
+use Rattle.structure.specs.Flow.{firstEdgeIn, edgesIn, edgeTo, edgeKind, trueEdgeTo, hasEdge, hasCondition, closesLoop}
 use Rattle.structure.specs.Ends.{Ends, Noted}
+use Rattle.structure.specs.Sources.{goesTo}
 use Rattle.structure.specs.Shape.{lastFrom}
-use Rattle.structure.proofs.Found.{last-behind}
+use Rattle.structure.proofs.Found.{edge-none, last-behind}
 
 -- nothing changed, and no place passes
 pub noted-none : (p : ℕ → Bool) (end : ℕ) (l : List ℕ) → ((i : ℕ) → p i ≡ false) → Noted p end l l
@@ -38,20 +41,36 @@ noted-then p q end l l′ l″ a b = record {
     both x y e f = rw (e, f)
 
 module _ (edges : List ℕ) (e end : ℕ) (l : List ℕ) where
-  -- a True edge's target
-  pub noted-edge : (t : ℕ) → t ≡ edgeTo edges e → Noted (λ i. trueEdgeTo edges edges i e) end l (set l t end)
-  noted-edge t q = record {
+  -- an edge's target
+  pub noted-target : (t : ℕ) (l′ : List ℕ) → t ≡ edgeTo edges e → l′ ≡ set l t end → Noted (λ i. goesTo edges i e) end l l′
+  noted-target t l′ q s = rw s (record {
     long = length-set l t end;
     each = λ i lt. at i lt (ℕ-discrete i t);
-  }
+  })
     where
-      at : (i : ℕ) → i < length l → Dec (i ≡ t) → (getD (set l t end) i 0 ≡ end) ⊎ ((getD (set l t end) i 0 ≡ getD l i 0) × (trueEdgeTo edges edges i e ≡ false))
+      at : (i : ℕ) → i < length l → Dec (i ≡ t) → (getD (set l t end) i 0 ≡ end) ⊎ ((getD (set l t end) i 0 ≡ getD l i 0) × (goesTo edges i e ≡ false))
       at i lt (yes s) = inl (rw (← s) (getD-set-same l i end 0 lt))
-      at i lt (no s) = inr (getD-set-other l t i end 0 s, simp (ne-eqb (edgeTo edges e) i (λ z. s (sym z ∙ sym q))))
+      at i lt (no s) = inr (getD-set-other l t i end 0 s, ne-eqb (edgeTo edges e) i (λ z. s (sym z ∙ sym q)))
+
+  pub noted-edge : (t : ℕ) (l′ : List ℕ) → t ≡ edgeTo edges e → l′ ≡ set l t end → Noted (λ i. trueEdgeTo edges edges i e) end l l′
+  noted-edge t l′ q s = noted-as (λ i. goesTo edges i e) (λ i. trueEdgeTo edges edges i e) end l l′ (noted-target t l′ q s) (λ i z. rw z)
 
   -- an edge of another kind has none
   pub noted-other : (kind : ℕ) → kind ≡ edgeKind edges e → (kind ≡ 1 → ⊥) → Noted (λ i. trueEdgeTo edges edges i e) end l l
   noted-other kind q h = noted-none (λ i. trueEdgeTo edges edges i e) end l (λ i. rw (← q, ne-eqb kind 1 h) (and-false (eqb (edgeTo edges e) i)))
+
+-- the edges of a block, each with its test
+module _ (blocks edges : List ℕ) (p : ℕ → ℕ → Bool) (k first : ℕ) (end : ℕ) (l l′ : List ℕ) where
+  abbrev so-far : ℕ → ℕ → Bool
+  so-far m i = anyBelow (λ j. p i (first + j)) m
+
+  pub noted-turn : (m : ℕ) (l″ : List ℕ) → Noted (so-far m) end l l′ → Noted (λ i. p i (first + m)) end l′ l″ → Noted (so-far (m + 1)) end l l″
+  noted-turn m l″ a b =
+      noted-as (λ i. so-far m i || p i (first + m)) (so-far (m + 1)) end l l″ (noted-then (so-far m) (λ i. p i (first + m)) end l l′ l″ a b)
+      (λ i e. any-more (λ j. p i (first + j)) m ∙ e)
+
+  pub noted-all : (n m : ℕ) → first ≡ firstEdgeIn blocks k → n ≡ edgesIn blocks k → m ≤ n → n ≤ m → Noted (so-far m) end l l′ → Noted (λ i. hasEdge blocks edges (p i) k) end l l′
+  noted-all n m f h le ge a = noted-as (so-far m) (λ i. hasEdge blocks edges (p i) k) end l l′ a (λ i e. sym (edge-none blocks edges (p i) k first n m f h le ge e))
 
 module _ (blocks edges : List ℕ) where
   -- a block without a True edge to i, or without a condition, closes no loop to i

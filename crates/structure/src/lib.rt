@@ -8,4 +8,5 @@ pub mod lines;
 pub mod loops;
 pub mod plan;
 pub mod shape;
+pub mod sources;
 pub mod tests;

@@ -24,7 +24,7 @@ returns : tie.Need-returns
 returns c =
     let s = c .before .before in
     let a = s .before .before .before .before .before .before .before .before .args in
-    rw (s .store-u16 .ensures) (noted-edge (a .edges .now) (a .e) (a .end) (a .out .now) _ (s .before .before .edge-to .ensures))
+    noted-edge (a .edges .now) (a .e) (a .end) (a .out .now) _ _ (s .before .before .edge-to .ensures) (s .store-u16 .ensures)
 
 returns-2 : tie.Need-returns-2
 returns-2 c =

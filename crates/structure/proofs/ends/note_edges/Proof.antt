@@ -1,14 +1,11 @@
 -- The targets of a block's True edges get entries behind it: `note_edges` meets its contract.
 -- The invariant: those of the edges so far have them.
-use mathlib.Core.Path.{_≡_, refl, sym, _∙_}
-use mathlib.Core.Bool.{Bool, _||_}
-use Prim.Native.Nat.{ℕ, _+_, _-_, _≤_}
+use mathlib.Core.Path.{refl}
+use Prim.Native.Nat.{_+_, _-_, _≤_}
 use Rattle.lists.specs.Choice.{anyBelow}
-use Rattle.lists.specs.Below.{any-more}
-use Rattle.structure.specs.Flow.{trueEdgeTo, hasEdge}
+use Rattle.structure.specs.Flow.{trueEdgeTo}
 use Rattle.structure.specs.Ends.{Noted}
-use Rattle.structure.proofs.Ended.{noted-none, noted-as, noted-then}
-use Rattle.structure.proofs.Found.{edge-none}
+use Rattle.structure.proofs.Ended.{noted-none, noted-turn, noted-all}
 use borrow.Author.Needs.{needs}
 use Rattle.structure.proofs.ends.note_edges.Statement.{statement}
 use Rattle.structure.proofs.ends.note_edges.Tie as tie
@@ -58,10 +55,7 @@ loop-again c =
     let l = s .before .before .before in
     let f = l .before .before .before .first-edge-in in
     let a = l .before .before .before .before .before .before .before .args in
-    let p : ℕ → ℕ → Bool = λ i j. trueEdgeTo (a .blocks .now) (a .edges .now) i (f .result + j) in
-    let m = l .loop .m in
-    let both = noted-then (λ i. anyBelow (p i) m) (λ i. p i m) (a .k .0 + 1) (a .out .now) (l .loop .out) _ (l .loop .inv .2) (s .note-edge .ensures) in
-    (search needs, search needs, noted-as (λ i. anyBelow (p i) m || p i m) (λ i. anyBelow (p i) (m + 1)) (a .k .0 + 1) (a .out .now) _ both (λ i e. any-more (p i) m ∙ e))
+    (search needs, search needs, noted-turn (a .blocks .now) (a .edges .now) (trueEdgeTo (a .blocks .now) (a .edges .now)) (a .k .0) (f .result) (a .k .0 + 1) (a .out .now) (l .loop .out) (l .loop .m) _ (l .loop .inv .2) (s .note-edge .ensures))
 
 same-length : tie.Need-same-length Inv-loop μ-loop
 same-length c = c .before .loop .inv .2 .long
@@ -72,8 +66,7 @@ returns c =
     let e = l .before .before .edges-in in
     let f = l .before .before .before .first-edge-in in
     let a = l .before .before .before .before .before .before .before .args in
-    noted-as (λ i. anyBelow (λ j. trueEdgeTo (a .blocks .now) (a .edges .now) i (f .result + j)) (l .loop .m)) (λ i. hasEdge (a .blocks .now) (a .edges .now) (trueEdgeTo (a .blocks .now) (a .edges .now) i) (a .k .0)) (a .k .0 + 1) (a .out .now) (l .loop .out) (l .loop .inv .2)
-    (λ i h. sym (edge-none (a .blocks .now) (a .edges .now) (trueEdgeTo (a .blocks .now) (a .edges .now) i) (a .k .0) (f .result) (e .result) (l .loop .m) (f .ensures .0) (e .ensures .0) (l .loop .inv .0) (c .loop-test .left) h))
+    noted-all (a .blocks .now) (a .edges .now) (trueEdgeTo (a .blocks .now) (a .edges .now)) (a .k .0) (f .result) (a .k .0 + 1) (a .out .now) (l .loop .out) (e .result) (l .loop .m) (f .ensures .0) (e .ensures .0) (l .loop .inv .0) (c .loop-test .left) (l .loop .inv .2)
 
 pub note-edges-spec : {M : Type 1} → statement M
 note-edges-spec =
