@@ -19,6 +19,7 @@ pub record Before (blocks edges : List ℕ) (from to : ℕ) (firsts : List ℕ) 
 pub record Behind (blocks edges : List ℕ) (n : ℕ) (lasts : List ℕ) : Type 0 where
   pub none : (t k : ℕ) → t < length lasts → getD lasts t 0 ≤ k → k < n → hasEdge blocks edges (goesTo edges t) k ≡ false
 
+-- both, of the first n blocks
 pub record Sources (blocks edges : List ℕ) (n : ℕ) (firsts lasts : List ℕ) : Type 0 where
   pub before : Before blocks edges 0 n firsts
   pub behind : Behind blocks edges n lasts

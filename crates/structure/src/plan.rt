@@ -171,6 +171,7 @@ pub fn plan(
 ) -> usize
     ensures { λ r. ⌜ Stored (now (out .entry)) 0 (planCodes (now (blocks .entry)) (now (edges .entry)) (now (shown .entry)) (now (starts .entry)) (now (targets .entry)) count from to indent) r (now (out .exit)) ⌝ }
 {
+    // Entries for more places than a record has blocks; of a place beyond them nothing is known before its search.
     let mut table = [0u16; 256];
     loop_ends(blocks, edges, Place(from), Place(to), &mut table);
     let ends: &[u16] = &table;

@@ -8,7 +8,7 @@ use lists::reads::u16_in;
 use lists::stores::store_u16;
 ghost use mathlib.Core.Bool.{true};
 ghost use mathlib.Core.Path.{_≡_};
-ghost use Prim.Native.Nat.{ℕ, _<_, _≤_};
+ghost use Prim.Native.Nat.{_<_, _≤_};
 ghost use lib.ListN.{length, getD};
 ghost use Rattle.structure.specs.Flow.{hasEdge};
 ghost use Rattle.structure.specs.Ends.{Noted};
@@ -61,6 +61,7 @@ fn comes_from(firsts: &[u16], lasts: &[u16], from: Place, to: Place, t: usize) -
     false
 }
 
+// Every place behind `from` and before `to` has edges only from the places from `from` up to `to`. A no tells nothing.
 pub fn is_sheltered(firsts: &[u16], lasts: &[u16], from: Place, to: Place) -> bool
     ensures { λ r. ⌜ (r ≡ true → Sheltered (now (firsts .entry)) (now (lasts .entry)) (from .0) (to .0) (to .0)) ⌝ }
 {

@@ -1,7 +1,6 @@
 -- Whether the places of a part have edges only from inside: `is_sheltered` meets its contract.
 -- The invariant: those so far have.
-use Prim.Native.Nat.{_+_, _-_, _≤_, _<_}
-use native.Mathlib.Omega.{arith}
+use Prim.Native.Nat.{_-_, _≤_}
 use Rattle.structure.specs.Sources.{Sheltered}
 use Rattle.structure.specs.Within.{false-true}
 use Rattle.structure.proofs.Sourced.{sheltered-none, sheltered-more, sheltered-all}
