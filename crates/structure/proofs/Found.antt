@@ -3,7 +3,8 @@
 use mathlib.Core.Path.{_≡_, sym, ap, _∙_}
 use mathlib.Core.Bool.{Bool, true, false}
 use mathlib.Core.List.{List}
-use Prim.Native.Nat.{ℕ, suc, _+_, _-_, _≤_, _<_}
+use Prim.Native.Nat.{ℕ, zero, suc, _+_, _-_, _≤_, _<_}
+use native.Mathlib.Decide.{decLe}
 use native.Mathlib.Omega.{arith}
 use Rattle.lists.specs.Choice.{anyBelow, pick}
 use Rattle.lists.specs.Below.{any-found, any-goes-on}
@@ -46,3 +47,24 @@ last-turn p i j h =
 pub last-over : (p : ℕ → Bool) (i j : ℕ) → j ≤ i → lastFrom p i (j - i) ≡ Nothing
 unfolding lastFrom
 last-over p i j h = let s : j - i ≡ 0 = omega arith in rw s
+
+-- a last place that does not pass
+last-less : (p : ℕ → Bool) (i n : ℕ) → (i ≤ n → p n ≡ false) → lastFrom p i (n - i) ≡ lastFrom p i (suc n - i)
+unfolding lastFrom
+last-less p i n e =
+    elim (decLe i n) [
+      | yes h ↦ (
+          let s : suc n - i ≡ suc (n - i) = omega arith in
+          let t : i + (n - i) ≡ n = omega arith in
+          sym (ap (lastFrom p i) s ∙ ap (λ (x : ℕ). pick (p x) (At x) (lastFrom p i (n - i))) t ∙ ap (λ (b : Bool). pick b (At n) (lastFrom p i (n - i))) (e h)))
+      | no h ↦ (let s : n - i ≡ suc n - i = omega arith in ap (lastFrom p i) s)
+    ]
+
+-- the search may begin before the end, if no place from there on passes
+pub last-behind : (p : ℕ → Bool) (i j to : ℕ) → j ≤ to → ((k : ℕ) → i ≤ k → j ≤ k → k < to → p k ≡ false) → lastFrom p i (j - i) ≡ lastFrom p i (to - i)
+last-behind p i j zero h none = let s : j ≡ 0 = omega arith in ap (λ (x : ℕ). lastFrom p i (x - i)) s
+last-behind p i j (suc n) h none =
+    elim (decLe j n) [
+      | yes q ↦ last-behind p i j n q (λ k f a b. none k f a (omega arith)) ∙ last-less p i n (λ f. none n f q (omega arith))
+      | no q ↦ (let s : j ≡ suc n = omega arith in ap (λ (x : ℕ). lastFrom p i (x - i)) s)
+    ]

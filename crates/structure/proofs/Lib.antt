@@ -1,2 +1,4 @@
+pub mod Ended
 pub mod Found
+pub mod Sourced
 pub mod Stands

@@ -1,5 +1,7 @@
 pub mod Flow
 pub mod Shape
+pub mod Ends
+pub mod Sources
 pub mod Plan
 pub mod Placed
 pub mod Demand

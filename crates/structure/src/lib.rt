@@ -2,9 +2,11 @@
 pub mod blocks;
 pub mod codes;
 pub mod edges;
+pub mod ends;
 pub mod flow;
 pub mod lines;
 pub mod loops;
 pub mod plan;
 pub mod shape;
+pub mod sources;
 pub mod tests;

@@ -1,12 +1,17 @@
 // The plan of a range: the range writer and the writer of one if-region call each other, on ever shorter spans.
 use crate::blocks::emit_head;
 use crate::blocks::emit_plain;
+use crate::ends::loop_ends;
 use crate::flow::Place;
 use crate::lines::put_line;
 use crate::loops::emit_loop;
 use crate::shape::Shape;
 use crate::shape::shape_at;
+use crate::sources::first_sources;
+use crate::sources::last_sources;
 ghost use Prim.Native.Nat.{_+_, _-_, _<_, _≤_};
+ghost use Rattle.structure.specs.Ends.{Ends};
+ghost use Rattle.structure.specs.Sources.{Sources};
 ghost use Rattle.structure.specs.Plan.{regionLines, rangeLines, planCodes};
 ghost use Rattle.structure.specs.Codes.{codes};
 ghost use Rattle.structure.specs.Stored.{Stored, Room};
@@ -15,6 +20,9 @@ ghost use Rattle.structure.specs.Stored.{Stored, Room};
 fn emit_range(
     blocks: &[u16],
     edges: &[u16],
+    ends: &[u16],
+    firsts: &[u16],
+    lasts: &[u16],
     shown: &[u8],
     starts: &[u8],
     targets: &[u8],
@@ -26,6 +34,8 @@ fn emit_range(
     at: usize,
 ) -> usize
     requires { ⌜ (to .0 < 65536) × (indent + (to .0 - from .0) < 131072) ⌝ }
+    requires { ⌜ Ends (now blocks) (now edges) (from .0) (to .0) (now ends) ⌝ }
+    requires { ⌜ Sources (now blocks) (now edges) count (now firsts) (now lasts) ⌝ }
     requires { ⌜ Room at (codes (rangeLines (now blocks) (now edges) (now shown) (now starts) (now targets) count (from .0) (from .0) (to .0) indent)) ⌝ }
     ensures { λ r. ⌜ Stored (now (out .entry)) at (codes (rangeLines (now (blocks .entry)) (now (edges .entry)) (now (shown .entry)) (now (starts .entry)) (now (targets .entry)) count (from .0) (from .0) (to .0) indent)) r (now (out .exit)) ⌝ }
 {
@@ -33,7 +43,18 @@ fn emit_range(
     let mut i = from.0;
     let mut n = at;
     while i < end {
-        match shape_at(blocks, edges, starts, targets, count, Place(i), to) {
+        match shape_at(
+            blocks,
+            edges,
+            ends,
+            firsts,
+            lasts,
+            starts,
+            targets,
+            count,
+            Place(i),
+            to,
+        ) {
             Shape::Loop(j) => {
                 n = emit_loop(
                     blocks,
@@ -52,6 +73,9 @@ fn emit_range(
                 n = emit_region(
                     blocks,
                     edges,
+                    ends,
+                    firsts,
+                    lasts,
                     shown,
                     starts,
                     targets,
@@ -90,6 +114,9 @@ fn emit_range(
 fn emit_region(
     blocks: &[u16],
     edges: &[u16],
+    ends: &[u16],
+    firsts: &[u16],
+    lasts: &[u16],
     shown: &[u8],
     starts: &[u8],
     targets: &[u8],
@@ -103,6 +130,8 @@ fn emit_region(
     at: usize,
 ) -> usize
     requires { ⌜ (i .0 + 1 < t .0) × (t .0 < 65536) × (indent + (t .0 - i .0) < 131072) ⌝ }
+    requires { ⌜ Ends (now blocks) (now edges) (i .0 + 1) (t .0) (now ends) ⌝ }
+    requires { ⌜ Sources (now blocks) (now edges) count (now firsts) (now lasts) ⌝ }
     requires { ⌜ Room at (codes (regionLines (now blocks) (now edges) (now shown) count (rangeLines (now blocks) (now edges) (now shown) (now starts) (now targets) count) (from .0) (i .0) (t .0) (to .0) indent)) ⌝ }
     ensures { λ r. ⌜ Stored (now (out .entry)) at (codes (regionLines (now (blocks .entry)) (now (edges .entry)) (now (shown .entry)) count (rangeLines (now (blocks .entry)) (now (edges .entry)) (now (shown .entry)) (now (starts .entry)) (now (targets .entry)) count) (from .0) (i .0) (t .0) (to .0) indent)) r (now (out .exit)) ⌝ }
 {
@@ -110,6 +139,9 @@ fn emit_region(
     let m = emit_range(
         blocks,
         edges,
+        ends,
+        firsts,
+        lasts,
         shown,
         starts,
         targets,
@@ -139,9 +171,22 @@ pub fn plan(
 ) -> usize
     ensures { λ r. ⌜ Stored (now (out .entry)) 0 (planCodes (now (blocks .entry)) (now (edges .entry)) (now (shown .entry)) (now (starts .entry)) (now (targets .entry)) count from to indent) r (now (out .exit)) ⌝ }
 {
+    // Entries for more places than a record has blocks; of a place beyond them nothing is known before its search.
+    let mut table = [0u16; 256];
+    loop_ends(blocks, edges, Place(from), Place(to), &mut table);
+    let ends: &[u16] = &table;
+    let mut low = [65535u16; 256];
+    first_sources(blocks, edges, count, &mut low);
+    let firsts: &[u16] = &low;
+    let mut high = [0u16; 256];
+    last_sources(blocks, edges, count, &mut high);
+    let lasts: &[u16] = &high;
     emit_range(
         blocks,
         edges,
+        ends,
+        firsts,
+        lasts,
         shown,
         starts,
         targets,

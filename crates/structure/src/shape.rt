@@ -1,15 +1,18 @@
 // What stands at a place of a range: a do-loop, an if-region, or a plain block.
+use crate::ends::search_end;
 use crate::flow::Place;
 use crate::flow::branch_to;
 use crate::flow::ending_in;
 use crate::tests::closes_loop;
 use crate::tests::region_escapes;
-use crate::tests::single_entry;
+use crate::tests::sole_entry;
 ghost use mathlib.Core.Bool.{_&&_, not};
 ghost use mathlib.Core.Path.{_≡_};
 ghost use Prim.Native.Nat.{_+_, _-_, _<_};
 ghost use lib.Dec.{ltb};
 ghost use Rattle.structure.specs.Flow.{closesLoop, singleEntry, escapes};
+ghost use Rattle.structure.specs.Ends.{Ends};
+ghost use Rattle.structure.specs.Sources.{Sources};
 ghost use Rattle.structure.specs.Shape.{lastFrom, opensRegion, regionAt, shapeAt};
 
 // A place that a search found.
@@ -26,10 +29,11 @@ pub enum Shape {
 }
 
 // The last block from place i on, before `to`, that closes a loop to i.
-pub fn last_loop(blocks: &[u16], edges: &[u16], i: Place, to: Place) -> Found
+pub fn last_loop(blocks: &[u16], edges: &[u16], ends: &[u16], i: Place, to: Place) -> Found
+    requires { ⌜ Ends (now blocks) (now edges) (i .0) (to .0) (now ends) ⌝ }
     ensures { λ r. ⌜ r ≡ lastFrom (closesLoop (now (blocks .entry)) (now (edges .entry)) (i .0)) (i .0) (to .0 - i .0) ⌝ }
 {
-    let mut j = to.0;
+    let mut j = search_end(ends, i, to);
     while i.0 < j {
         j -= 1;
         if closes_loop(blocks, edges, i, Place(j)) {
@@ -40,12 +44,21 @@ pub fn last_loop(blocks: &[u16], edges: &[u16], i: Place, to: Place) -> Found
 }
 
 // A loop from i to j has more than one block, and is entered only at i.
-fn is_loop(blocks: &[u16], edges: &[u16], count: u16, i: Place, j: Place) -> bool
+fn is_loop(
+    blocks: &[u16],
+    edges: &[u16],
+    firsts: &[u16],
+    lasts: &[u16],
+    count: u16,
+    i: Place,
+    j: Place,
+) -> bool
+    requires { ⌜ Sources (now blocks) (now edges) count (now firsts) (now lasts) ⌝ }
     requires { ⌜ j .0 < 65535 ⌝ }
     ensures { λ r. ⌜ r ≡ (ltb (i .0) (j .0) && singleEntry (now (blocks .entry)) (now (edges .entry)) count (i .0) (j .0 + 1)) ⌝ }
 {
     if i.0 < j.0 {
-        return single_entry(blocks, edges, count, i, Place(j.0 + 1));
+        return sole_entry(blocks, edges, firsts, lasts, count, i, Place(j.0 + 1));
     }
     false
 }
@@ -54,15 +67,18 @@ fn is_loop(blocks: &[u16], edges: &[u16], count: u16, i: Place, j: Place) -> boo
 fn is_region(
     blocks: &[u16],
     edges: &[u16],
+    firsts: &[u16],
+    lasts: &[u16],
     starts: &[u8],
     targets: &[u8],
     count: u16,
     from: Place,
     t: Place,
 ) -> bool
+    requires { ⌜ Sources (now blocks) (now edges) count (now firsts) (now lasts) ⌝ }
     ensures { λ r. ⌜ r ≡ (singleEntry (now (blocks .entry)) (now (edges .entry)) count (from .0) (t .0) && not (escapes (now (blocks .entry)) (now (edges .entry)) (now (starts .entry)) (now (targets .entry)) (from .0) (t .0) (t .0))) ⌝ }
 {
-    if single_entry(blocks, edges, count, from, t) {
+    if sole_entry(blocks, edges, firsts, lasts, count, from, t) {
         return !region_escapes(blocks, edges, starts, targets, from, t, t);
     }
     false
@@ -72,12 +88,15 @@ fn is_region(
 fn opens_region(
     blocks: &[u16],
     edges: &[u16],
+    firsts: &[u16],
+    lasts: &[u16],
     starts: &[u8],
     targets: &[u8],
     count: u16,
     i: Place,
     to: Place,
 ) -> bool
+    requires { ⌜ Sources (now blocks) (now edges) count (now firsts) (now lasts) ⌝ }
     ensures { λ r. ⌜ r ≡ opensRegion (now (blocks .entry)) (now (edges .entry)) (now (starts .entry)) (now (targets .entry)) count (i .0) (to .0) ⌝ }
 {
     let t = branch_to(blocks, i);
@@ -87,6 +106,8 @@ fn opens_region(
                 return is_region(
                     blocks,
                     edges,
+                    firsts,
+                    lasts,
                     starts,
                     targets,
                     count,
@@ -102,15 +123,18 @@ fn opens_region(
 fn region_at(
     blocks: &[u16],
     edges: &[u16],
+    firsts: &[u16],
+    lasts: &[u16],
     starts: &[u8],
     targets: &[u8],
     count: u16,
     i: Place,
     to: Place,
 ) -> Shape
+    requires { ⌜ Sources (now blocks) (now edges) count (now firsts) (now lasts) ⌝ }
     ensures { λ r. ⌜ r ≡ regionAt (now (blocks .entry)) (now (edges .entry)) (now (starts .entry)) (now (targets .entry)) count (i .0) (to .0) ⌝ }
 {
-    if opens_region(blocks, edges, starts, targets, count, i, to) {
+    if opens_region(blocks, edges, firsts, lasts, starts, targets, count, i, to) {
         return Shape::Region(branch_to(blocks, i));
     }
     Shape::Plain
@@ -120,22 +144,27 @@ fn region_at(
 pub fn shape_at(
     blocks: &[u16],
     edges: &[u16],
+    ends: &[u16],
+    firsts: &[u16],
+    lasts: &[u16],
     starts: &[u8],
     targets: &[u8],
     count: u16,
     i: Place,
     to: Place,
 ) -> Shape
+    requires { ⌜ Ends (now blocks) (now edges) (i .0) (to .0) (now ends) ⌝ }
+    requires { ⌜ Sources (now blocks) (now edges) count (now firsts) (now lasts) ⌝ }
     ensures { λ r. ⌜ r ≡ shapeAt (now (blocks .entry)) (now (edges .entry)) (now (starts .entry)) (now (targets .entry)) count (i .0) (to .0) ⌝ }
 {
-    let found = last_loop(blocks, edges, i, to);
+    let found = last_loop(blocks, edges, ends, i, to);
     match found {
         Found::At(j) => {
-            if is_loop(blocks, edges, count, i, Place(j)) {
+            if is_loop(blocks, edges, firsts, lasts, count, i, Place(j)) {
                 return Shape::Loop(j);
             }
-            region_at(blocks, edges, starts, targets, count, i, to)
+            region_at(blocks, edges, firsts, lasts, starts, targets, count, i, to)
         }
-        Found::Nothing => region_at(blocks, edges, starts, targets, count, i, to),
+        Found::Nothing => region_at(blocks, edges, firsts, lasts, starts, targets, count, i, to),
     }
 }

@@ -7,9 +7,11 @@ use crate::edges::has_true_edge;
 use crate::flow::Place;
 use crate::flow::has_condition;
 use crate::flow::is_outside;
+use crate::sources::is_sheltered;
 ghost use mathlib.Core.Bool.{_&&_};
 ghost use mathlib.Core.Path.{_≡_};
 ghost use Rattle.structure.specs.Flow.{hasEdge, closesLoop, outside, enters, singleEntry, jumpTo, outsideJump, escapes};
+ghost use Rattle.structure.specs.Sources.{Sources};
 
 // Block j has a True edge to place i, and its last instruction has a condition.
 pub fn closes_loop(blocks: &[u16], edges: &[u16], i: Place, j: Place) -> bool
@@ -43,6 +45,25 @@ pub fn single_entry(blocks: &[u16], edges: &[u16], count: u16, from: Place, to: 
         k += 1;
     }
     true
+}
+
+// The same, without reading a block where the lists of sources tell that no edge comes from outside.
+pub fn sole_entry(
+    blocks: &[u16],
+    edges: &[u16],
+    firsts: &[u16],
+    lasts: &[u16],
+    count: u16,
+    from: Place,
+    to: Place,
+) -> bool
+    requires { ⌜ Sources (now blocks) (now edges) count (now firsts) (now lasts) ⌝ }
+    ensures { λ r. ⌜ r ≡ singleEntry (now (blocks .entry)) (now (edges .entry)) count (from .0) (to .0) ⌝ }
+{
+    if is_sheltered(firsts, lasts, from, to) {
+        return true;
+    }
+    single_entry(blocks, edges, count, from, to)
 }
 
 // Block k lies outside and has an edge to place i that is not of kind Fall.

@@ -1,5 +1,5 @@
 -- The last block that closes a loop: `last_loop` meets its contract.
--- The invariant: the last one before j is the last one before the end.
+-- The invariant: the last one before j is the last one before where the search began, and none is behind.
 use mathlib.Core.Path.{_≡_, refl, sym, ap, _∙_}
 use mathlib.Core.Bool.{Bool}
 use Prim.Native.Nat.{_-_, _≤_}
@@ -7,16 +7,20 @@ use Rattle.lists.specs.Choice.{pick}
 use Rattle.structure.specs.Flow.{closesLoop}
 use Rattle.structure.specs.Shape.{lastFrom}
 use Rattle.structure.specs.declared.shape.Found.the-variants.{At}
+use Rattle.structure.proofs.Ended.{search-behind}
 use Rattle.structure.proofs.Found.{last-turn, last-over}
 use borrow.Author.Needs.{needs}
 use Rattle.structure.proofs.shape.last_loop.Statement.{statement}
 use Rattle.structure.proofs.shape.last_loop.Tie as tie
 
 abbrev Inv-loop : tie.InvT-loop
-Inv-loop blocks edges i j₀ j = (j ≤ 65535) × (lastFrom (closesLoop blocks edges (i .0)) (i .0) (j - i .0) ≡ lastFrom (closesLoop blocks edges (i .0)) (i .0) (j₀ - i .0))
+Inv-loop blocks edges ends i j₀ j = (j ≤ 65535) × (lastFrom (closesLoop blocks edges (i .0)) (i .0) (j - i .0) ≡ lastFrom (closesLoop blocks edges (i .0)) (i .0) (j₀ - i .0))
 
 abbrev μ-loop : tie.MeasureT-loop
-μ-loop blocks edges i j₀ j = j
+μ-loop blocks edges ends i j₀ j = j
+
+search-end-requires : tie.Need-search-end-requires Inv-loop μ-loop
+search-end-requires c κs = search needs
 
 loop-holds : tie.Need-loop-holds Inv-loop μ-loop
 loop-holds c = (search needs, refl)
@@ -31,10 +35,13 @@ returns : tie.Need-returns Inv-loop μ-loop
 returns c =
     let t = c .before in
     let l = t .before .before .before in
-    let a = l .before .before .before .args in
+    let e = l .before .search-end in
+    let s = l .before .before .before .before .before in
+    let a = s .args in
     let n = l .loop .j in
     sym (ap (λ (b : Bool). pick b (At (n - 1)) (lastFrom (closesLoop (a .blocks .now) (a .edges .now) (a .i .0)) (a .i .0) (n - 1 - a .i .0))) (sym (t .closes-loop .ensures) ∙ c .if2 .taken))
     ∙ sym (last-turn (closesLoop (a .blocks .now) (a .edges .now) (a .i .0)) (a .i .0) n (search needs)) ∙ l .loop .inv .1
+    ∙ search-behind (a .blocks .now) (a .edges .now) (a .ends .now) (a .i .0) (a .to .0) (e .result) (s .pre) (e .ensures)
 
 loop-less : tie.Need-loop-less Inv-loop μ-loop
 loop-less c = search needs
@@ -43,7 +50,7 @@ loop-again : tie.Need-loop-again Inv-loop μ-loop
 loop-again c =
     let t = c .before in
     let l = t .before .before .before in
-    let a = l .before .before .before .args in
+    let a = l .before .before .before .before .before .args in
     let n = l .loop .j in (
       search needs,
       sym (ap (λ (b : Bool). pick b (At (n - 1)) (lastFrom (closesLoop (a .blocks .now) (a .edges .now) (a .i .0)) (a .i .0) (n - 1 - a .i .0))) (sym (t .closes-loop .ensures) ∙ c .if2 .left))
@@ -53,8 +60,11 @@ loop-again c =
 returns-2 : tie.Need-returns-2 Inv-loop μ-loop
 returns-2 c =
     let l = c .before .before in
-    let a = l .before .before .before .args in
+    let e = l .before .search-end in
+    let s = l .before .before .before .before .before in
+    let a = s .args in
     sym (last-over (closesLoop (a .blocks .now) (a .edges .now) (a .i .0)) (a .i .0) (l .loop .j) (search needs)) ∙ l .loop .inv .1
+    ∙ search-behind (a .blocks .now) (a .edges .now) (a .ends .now) (a .i .0) (a .to .0) (e .result) (s .pre) (e .ensures)
 
 pub last-loop-spec : {M : Type 1} → statement M
 last-loop-spec =
@@ -62,6 +72,7 @@ last-loop-spec =
     (tie.spec
     Inv-loop
     μ-loop
+    search-end-requires
     loop-holds
     sub-j
     closes-loop-requires

@@ -22,8 +22,8 @@ add-if2 c = search needs
 cast-if2-2 : tie.Need-cast-if2-2
 cast-if2-2 c = search needs
 
-add-t16 : tie.Need-add-t16
-add-t16 c = search needs
+add-t18 : tie.Need-add-t18
+add-t18 c = search needs
 
 is-region-requires : tie.Need-is-region-requires
 is-region-requires c κs = search needs
@@ -62,7 +62,7 @@ opens-region-spec =
     cast-if2
     add-if2
     cast-if2-2
-    add-t16
+    add-t18
     is-region-requires
     returns
     returns-2

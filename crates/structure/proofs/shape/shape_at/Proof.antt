@@ -20,16 +20,16 @@ is-loop-requires : tie.Need-is-loop-requires
 is-loop-requires c κs =
     let f = c .before .found in
     let l = c .before .before .before in
-    let a = l .before .before .before .before .before .args in
-    let fits : a .to .0 < 65536 = l .before .before .before .before .before .good .1 .1 .1 .1 .1 .1 .0 .1 .1 .0 .1 in
-    omega (arith, last-before (closesLoop (a .blocks .now) (a .edges .now) (a .i .0)) (a .i .0) (a .to .0) (f .given .0 .0) (sym (l .last-loop .ensures) ∙ f .given .1))
+    let a = l .before .before .before .before .before .before .before .before .args in
+    let fits : a .to .0 < 65536 = l .before .before .before .before .before .before .before .before .good .1 .1 .1 .1 .1 .1 .1 .1 .1 .0 .1 .1 .0 .1 in
+    (l .before .before .before .before .before .before .before .before .pre .1, omega (arith, last-before (closesLoop (a .blocks .now) (a .edges .now) (a .i .0)) (a .i .0) (a .to .0) (f .given .0 .0) (sym (l .last-loop .ensures) ∙ f .given .1)))
 
 returns : tie.Need-returns
 returns c =
     let t = c .before in
     let f = t .before .before .found in
     let l = t .before .before .before .before in
-    let a = l .before .before .before .before .before .args in
+    let a = l .before .before .before .before .before .before .before .before .args in
     stands-loop (a .blocks .now) (a .edges .now) (a .starts .now) (a .targets .now) (a .count) (a .i .0) (a .to .0) (l .last-loop .result) (l .last-loop .ensures) (f .given .0 .0) (f .given .1) (t .is-loop .result) (t .is-loop .ensures) (c .if1 .taken)
 
 region-at-requires : tie.Need-region-at-requires
@@ -46,14 +46,14 @@ returns-2 c =
     let t = c .before .before in
     let f = t .before .before .found in
     let l = t .before .before .before .before in
-    let a = l .before .before .before .before .before .args in
+    let a = l .before .before .before .before .before .before .before .before .args in
     stands-no-loop (a .blocks .now) (a .edges .now) (a .starts .now) (a .targets .now) (a .count) (a .i .0) (a .to .0) (l .last-loop .result) (l .last-loop .ensures) (f .given .0 .0) (f .given .1) (t .is-loop .result) (t .is-loop .ensures) (c .region-at .result) (c .before .if1 .left) (c .region-at .ensures)
 
 returns-3 : tie.Need-returns-3
 returns-3 c =
     let f = c .before .enum-told in
     let l = c .before .before .before in
-    let a = l .before .before .before .before .before .args in
+    let a = l .before .before .before .before .before .before .before .before .args in
     stands-alone (a .blocks .now) (a .edges .now) (a .starts .now) (a .targets .now) (a .count) (a .i .0) (a .to .0) (l .last-loop .result) (l .last-loop .ensures) (c .region-at2 .result) (f .given .1) (c .region-at2 .ensures)
 
 pub shape-at-spec : {M : Type 1} → statement M
