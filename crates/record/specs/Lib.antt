@@ -6,3 +6,4 @@ pub mod Atlas
 pub mod Asked
 pub mod Running
 pub mod AskedLaws
+pub mod Rising
