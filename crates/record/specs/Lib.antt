@@ -7,3 +7,4 @@ pub mod Asked
 pub mod Running
 pub mod AskedLaws
 pub mod Rising
+pub mod Halving
