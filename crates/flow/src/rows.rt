@@ -78,6 +78,7 @@ fn rises_in(rec: &[u8], h: Header) -> bool
     starts_rise(from(rec, 24), h.blocks)
 }
 
+// The place of the block that starts at an address; `rises` tells whether it can be found by halving.
 pub fn place_of(rec: &[u8], h: Header, rises: bool, va: u64) -> u16
     requires { ⌜ rises ≡ startsRise (startsOf h (now rec)) (h .blocks) ⌝ }
     ensures { λ r. ⌜ r ≡ placeOf h (now (rec .entry)) va ⌝ }

@@ -1,17 +1,16 @@
 -- What rises from each number to the next rises over any distance, so block starts that rise are all different.
 -- By induction on the greater number.
 use Prim.Native.Nat.{ℕ, zero, suc, _-_, _<_}
-use mathlib.Core.Bool.{Bool, true, _||_}
+use mathlib.Core.Bool.{Bool, true}
 use mathlib.Core.List.{List}
 use mathlib.Core.Path.{_≡_, refl}
 use native.Mathlib.Decide.{ℕ-discrete}
 use native.Mathlib.Nat.{not-suc-le-zero}
 use native.Mathlib.Omega.{arith}
 use borrow.Author.Tests.{ltb-true, ne-eqb}
-use lib.Dec.{eqb, ltb}
 use Rattle.lists.specs.Choice.{allBelow}
 use Rattle.record.specs.AskedLaws.{both-yes}
-use Rattle.record.specs.Blocks.{startAt, differ, startIsNew, startsDiffer, startsRise}
+use Rattle.record.specs.Blocks.{startAt, differ, startIsNew, startsDiffer, startRises, startsRise}
 
 -- each of the first n numbers is above the one before it
 abbrev pub Rises : (ℕ → ℕ) → ℕ → Type 0
@@ -25,7 +24,7 @@ rise f n r i (suc j) a b =
       | no e ↦ omega (arith, rise f n r i j (omega arith) (omega arith), r j b)
     ]
 
--- a test passes below n where it passes at each number there
+-- a test that passes below n passes at each number there, and the other way round
 all-at : (p : ℕ → Bool) (n i : ℕ) → allBelow p n ≡ true → i < n → p i ≡ true
 all-at p zero i h l = absurd (not-suc-le-zero l)
 all-at p (suc n) i h l =
@@ -42,7 +41,7 @@ module _ (starts : List ℕ) (B : ℕ) (yes : startsRise starts B ≡ true) wher
   pub starts-rise : Rises (startAt starts) B
   unfolding startsRise
   starts-rise k l =
-      let t = all-at (λ j. eqb j 0 || ltb (startAt starts (j - 1)) (startAt starts j)) B (suc k) yes l in
+      let t = all-at (startRises starts) B (suc k) yes l in
       let q : suc k - 1 ≡ k = omega arith in
       ltb-true (startAt starts k) (startAt starts (suc k)) (rw (ne-eqb (suc k) 0 (λ e. omega arith), q) at t)
 

@@ -47,7 +47,7 @@ fn entries_ok(entries: &[u8], pairs: &[u8], atlas: u16) -> bool
     ok
 }
 
-// The lengths of k entries that are there, summed: each is read without a test, and the loop is unrolled.
+// The lengths of k entries that are there, summed: no test stands between the reads.
 fn plain_start(pairs: &[u8], k: usize) -> u32
     requires { ⌜ (k < 65536) × (2 * k ≤ length (now pairs)) ⌝ }
     ensures { λ r. ⌜ r ≡ textStart (now (pairs .entry)) k ⌝ }

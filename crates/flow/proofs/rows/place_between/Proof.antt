@@ -1,6 +1,6 @@
 -- `place_between` meets its contract.
 -- The invariant: blocks below `low` start before the address, those from `high` on behind it.
-use Prim.Native.Nat.{ℕ, _≤_, _-_}
+use Prim.Native.Nat.{_≤_, _-_}
 use mathlib.Core.Path.{sym, _∙_}
 use native.Mathlib.Omega.{arith}
 use borrow.Author.Needs.{needs}

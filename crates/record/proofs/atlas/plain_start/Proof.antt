@@ -1,10 +1,10 @@
 -- `plain_start` meets its contract.
 -- The invariant: the lengths so far, summed, each below 256.
 use mathlib.Core.Path.{_≡_}
-use Prim.Native.Nat.{_+_, _*_, _≤_, _<_, _-_}
+use Prim.Native.Nat.{_+_, _*_, _≤_, _-_}
 use native.Mathlib.Omega.{arith}
 use borrow.Author.Needs.{needs}
-use Rattle.record.specs.Atlas.{entryLength, textStart}
+use Rattle.record.specs.Atlas.{textStart}
 use Rattle.record.specs.Running.{text-more}
 use Rattle.record.proofs.atlas.plain_start.Statement.{statement}
 use Rattle.record.proofs.atlas.plain_start.Tie as tie
