@@ -1,8 +1,9 @@
 -- How loops store rows and search places.
 -- The invariant of each: what is left from here on is what there was from the start.
-use Prim.Native.Nat.{ℕ, suc, _+_, _-_, _≤_, _<_}
+use Prim.Native.Nat.{ℕ, zero, suc, _+_, _-_, _≤_, _<_}
 use mathlib.Core.List.{List, [], _∷_, _++_}
-use mathlib.Core.Path.{_≡_, sym, ap, _∙_}
+use mathlib.Core.Path.{_≡_, refl, sym, ap, _∙_}
+use native.Mathlib.Decide.{ℕ-discrete}
 use native.Mathlib.Numerals.{add-one}
 use native.Mathlib.Omega.{arith}
 use lib.Dec.{eqb}
@@ -68,3 +69,18 @@ module _ (starts : List ℕ) (va : ℕ) where
     pub place-none : n ≤ k → placeFrom starts va k (n - k) ≡ 65535
     unfolding placeFrom
     place-none h = let d : n - k ≡ 0 = omega arith in rw d
+
+  -- The first of n places from k on, by what is known of all of them.
+  pub place-nowhere : (k n : ℕ) → ((j : ℕ) → j < k + n → startAt starts j ≡ va → ⊥) → placeFrom starts va k n ≡ 65535
+  unfolding placeFrom
+  place-nowhere k zero h = refl
+  place-nowhere k (suc n) h = rw (ne-eqb (startAt starts k) va (h k (omega arith))) (place-nowhere (suc k) n (λ j a. h j (omega arith)))
+
+  pub place-first : (k n m : ℕ) → k ≤ m → m < k + n → ((j : ℕ) → j < m → startAt starts j ≡ va → ⊥) → startAt starts m ≡ va → placeFrom starts va k n ≡ m
+  unfolding placeFrom
+  place-first k zero m a b h e = absurd (omega arith)
+  place-first k (suc n) m a b h e =
+      elim (ℕ-discrete k m) [
+        | yes q ↦ rw (q, eq-eqb (startAt starts m) va e)
+        | no q ↦ rw (ne-eqb (startAt starts k) va (h k (omega arith))) (place-first (suc k) n m (omega arith) (omega arith) h e)
+      ]

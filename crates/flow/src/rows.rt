@@ -10,6 +10,7 @@ use record::blocks::edges_in;
 use record::blocks::instructions_in;
 use record::blocks::label_mark;
 use record::blocks::start_at;
+use record::blocks::starts_rise;
 use record::blocks::target_at;
 use record::body::body_at;
 use record::body::op_number;
@@ -20,12 +21,15 @@ use record::layout::marks_at;
 use record::layout::size;
 use record::layout::targets_at;
 ghost use mathlib.Core.Path.{_≡_};
+ghost use mathlib.Core.Bool.{true};
 ghost use mathlib.Core.List.{[], _∷_};
 ghost use Prim.Native.Nat.{_+_, _-_, _*_, _<_};
 ghost use lib.Dec.{eqb, leb};
 ghost use Rattle.lists.specs.Choice.{pick};
 ghost use Rattle.lists.specs.Put.{put};
+ghost use Rattle.record.specs.Blocks.{startsRise};
 ghost use Rattle.record.specs.Body.{operandNumber};
+ghost use Rattle.record.specs.Layout.{startsOf};
 ghost use Rattle.x86.specs.Table.{isaBytes};
 ghost use Rattle.flow.specs.Silent.{isQuiet, endingOf};
 ghost use Rattle.flow.specs.Rows.{placeFrom, placeOf, blockRows, edgeRows, shownRows};
@@ -45,10 +49,45 @@ fn place_in(starts: &[u8], blocks: u16, va: u64) -> u16
     65535
 }
 
-pub fn place_of(rec: &[u8], h: Header, va: u64) -> u16
+// The same among starts that rise, by halving: blocks below `low` start before the address, those from `high` on behind it.
+fn place_between(starts: &[u8], blocks: u16, va: u64) -> u16
+    requires { ⌜ startsRise (now starts) blocks ≡ true ⌝ }
+    ensures { λ r. ⌜ r ≡ placeFrom (now (starts .entry)) va 0 blocks ⌝ }
+{
+    let mut low: u16 = 0;
+    let mut high = blocks;
+    while low < high {
+        let mid = low + (high - low) / 2;
+        let a = start_at(starts, Place(mid)).0;
+        if a == va {
+            return mid;
+        }
+        if a < va {
+            low = mid + 1;
+        } else {
+            high = mid;
+        }
+    }
+    65535
+}
+
+// Whether a record's block starts rise: asked once for all its places.
+fn rises_in(rec: &[u8], h: Header) -> bool
+    ensures { λ r. ⌜ r ≡ startsRise (startsOf h (now (rec .entry))) (h .blocks) ⌝ }
+{
+    starts_rise(from(rec, 24), h.blocks)
+}
+
+// The place of the block that starts at an address; `rises` tells whether it can be found by halving.
+pub fn place_of(rec: &[u8], h: Header, rises: bool, va: u64) -> u16
+    requires { ⌜ rises ≡ startsRise (startsOf h (now rec)) (h .blocks) ⌝ }
     ensures { λ r. ⌜ r ≡ placeOf h (now (rec .entry)) va ⌝ }
 {
-    place_in(from(rec, 24), h.blocks, va)
+    let starts = from(rec, 24);
+    if rises {
+        return place_between(starts, h.blocks, va);
+    }
+    place_in(starts, h.blocks, va)
 }
 
 fn put_two(out: &mut [u16], at: usize, a: u16, b: u16)
@@ -90,24 +129,25 @@ fn ending_in(last: &[u8], n: u16) -> u8
 }
 
 // The place of a closing branch's target.
-fn branch_in(rec: &[u8], h: Header, last: &[u8], ending: u8) -> u16
+fn branch_in(rec: &[u8], h: Header, rises: bool, last: &[u8], ending: u8) -> u16
+    requires { ⌜ rises ≡ startsRise (startsOf h (now rec)) (h .blocks) ⌝ }
     ensures { λ r. ⌜ r ≡ pick (leb 2 ending) (placeOf h (now (rec .entry)) (operandNumber (now (last .entry)) 0)) 65535 ⌝ }
 {
     if 2 <= ending {
-        return place_of(rec, h, op_number(last, 0));
+        return place_of(rec, h, rises, op_number(last, 0));
     }
     65535
 }
 
 // The last four numbers of block k's row; its n instructions begin at the first.
-fn put_ending(rec: &[u8], h: Header, k: u16, first: u16, n: u16, out: &mut [u16])
-    requires { ⌜ BlockHas h (now rec) k first n ⌝ }
+fn put_ending(rec: &[u8], h: Header, rises: bool, k: u16, first: u16, n: u16, out: &mut [u16])
+    requires { ⌜ (rises ≡ startsRise (startsOf h (now rec)) (h .blocks)) × BlockHas h (now rec) k first n ⌝ }
     ensures { λ _. ⌜ now (out .exit) ≡ put (8 * k + 4) (rowEnding h (now (rec .entry)) k) (now (out .entry)) ⌝ }
 {
     let label = label_mark(from(rec, marks_at(h)), Place(k));
     let last = body_at(from(rec, bodies_at(h)), last_at(first, n));
     let ending = ending_in(last, n);
-    let branch = branch_in(rec, h, last, ending);
+    let branch = branch_in(rec, h, rises, last, ending);
     put_four(out, 8 * size(k) + 4, label as u16, ending as u16, branch, 0);
 }
 
@@ -115,6 +155,7 @@ pub fn block_rows(rec: &[u8], h: Header, out: &mut [u16])
     requires { ⌜ Counted h (now rec) ⌝ }
     ensures { λ _. ⌜ now (out .exit) ≡ put 0 (blockRows h (now (rec .entry))) (now (out .entry)) ⌝ }
 {
+    let rises = rises_in(rec, h);
     let marks = from(rec, marks_at(h));
     let mut first: u16 = 0;
     let mut edge: u16 = 0;
@@ -123,7 +164,7 @@ pub fn block_rows(rec: &[u8], h: Header, out: &mut [u16])
         let n = instructions_in(marks, Place(k));
         let m = edges_in(marks, Place(k)) as u16;
         put_four(out, 8 * size(k), first, n, edge, m);
-        put_ending(rec, h, k, first, n, out);
+        put_ending(rec, h, rises, k, first, n, out);
         first += n;
         edge += m;
         k += 1;
@@ -133,11 +174,12 @@ pub fn block_rows(rec: &[u8], h: Header, out: &mut [u16])
 pub fn edge_rows(rec: &[u8], h: Header, out: &mut [u16])
     ensures { λ _. ⌜ now (out .exit) ≡ put 0 (edgeRows h (now (rec .entry))) (now (out .entry)) ⌝ }
 {
+    let rises = rises_in(rec, h);
     let targets = from(rec, targets_at(h));
     let kinds = from(rec, edge_kinds_at(h));
     let mut e: u16 = 0;
     while e < h.edges {
-        let to = place_of(rec, h, target_at(targets, e).0);
+        let to = place_of(rec, h, rises, target_at(targets, e).0);
         put_two(out, 2 * size(e), to, edge_kind_at(kinds, e) as u16);
         e += 1;
     }

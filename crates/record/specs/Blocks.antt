@@ -1,8 +1,8 @@
 -- Blocks and edges, and what questions 5 to 7 ask of them. Each definition speaks of the part that begins at its array.
-use Prim.Native.Nat.{ℕ, _+_, _*_}
+use Prim.Native.Nat.{ℕ, _+_, _-_, _*_}
 use mathlib.Core.List.{List}
-use mathlib.Core.Bool.{Bool, not, _&&_}
-use lib.Dec.{leb, eqb}
+use mathlib.Core.Bool.{Bool, not, _&&_, _||_}
+use lib.Dec.{ltb, leb, eqb}
 use Rattle.lists.specs.Bytes.{u8At, u16At, u64At}
 use Rattle.lists.specs.Choice.{allBelow, sumBelow}
 
@@ -52,6 +52,14 @@ startIsNew starts k = allBelow (differ starts k) k
 -- "6. Block starts all different?"
 unfoldable pub startsDiffer : List ℕ → ℕ → Bool
 startsDiffer starts B = allBelow (startIsNew starts) B
+
+-- "Blocks stand in listing order", mostly by their addresses: block k starts above the block before it
+abbrev pub startRises : List ℕ → ℕ → Bool
+startRises starts k = eqb k 0 || ltb (startAt starts (k - 1)) (startAt starts k)
+
+-- each block does. No question asks it, but where it holds question 6 gets a yes, and places are found by halving
+unfoldable pub startsRise : List ℕ → ℕ → Bool
+startsRise starts B = allBelow (startRises starts) B
 
 -- "7. Edge kinds 0 to 4?"
 unfoldable pub edgeKindsOk : List ℕ → ℕ → Bool

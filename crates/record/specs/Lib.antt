@@ -6,3 +6,5 @@ pub mod Atlas
 pub mod Asked
 pub mod Running
 pub mod AskedLaws
+pub mod Rising
+pub mod Halving

@@ -5,7 +5,7 @@ use lists::reads::u16_at;
 use lists::reads::u64_at;
 ghost use mathlib.Core.Path.{_≡_};
 ghost use Prim.Native.Nat.{_*_, _<_};
-ghost use Rattle.record.specs.Blocks.{startAt, instructionsIn, edgesIn, labelMark, targetAt, edgeKindAt, marksOk, startIsNew, startsDiffer, edgeKindsOk};
+ghost use Rattle.record.specs.Blocks.{startAt, instructionsIn, edgesIn, labelMark, targetAt, edgeKindAt, marksOk, startIsNew, startsDiffer, startsRise, edgeKindsOk};
 
 pub struct Address(pub u64);
 
@@ -79,10 +79,29 @@ fn start_is_new(starts: &[u8], k: u16) -> bool
     true
 }
 
-// Question 6.
+// Whether each block starts above the one before it; `before` is that one's start, at first block 0's.
+pub fn starts_rise(starts: &[u8], blocks: u16) -> bool
+    ensures { λ r. ⌜ r ≡ startsRise (now (starts .entry)) blocks ⌝ }
+{
+    let mut before = start_at(starts, Place(0)).0;
+    let mut ok = true;
+    let mut k: u16 = 0;
+    while k < blocks {
+        let x = start_at(starts, Place(k)).0;
+        ok = ok & ((k == 0) | (before < x));
+        before = x;
+        k += 1;
+    }
+    ok
+}
+
+// Question 6. Starts that rise differ, which one pass tells; other records ask it of each pair.
 pub fn starts_differ(starts: &[u8], blocks: u16) -> bool
     ensures { λ r. ⌜ r ≡ startsDiffer (now (starts .entry)) blocks ⌝ }
 {
+    if starts_rise(starts, blocks) {
+        return true;
+    }
     let mut k: u16 = 0;
     while k < blocks {
         if !start_is_new(starts, k) {

@@ -148,18 +148,21 @@ fn name_byte(c: u8) -> bool
     ((97 <= c) & (c <= 122)) | ((48 <= c) & (c <= 57)) | (c == 95)
 }
 
-// A name: a letter, digit or `_`, then more of them, then zeros.
+// A name: a letter, digit or `_`, then more of them, then zeros; `before` is the byte before the one read.
 fn is_name(name: &[u8]) -> bool
     ensures { λ r. ⌜ r ≡ isName (now (name .entry)) ⌝ }
 {
+    let first = u8_at(name, 0);
+    let mut before = first;
     let mut ok = true;
     let mut k: usize = 0;
     while k < 23 {
         let c = u8_at(name, k + 1);
-        ok = ok & ((c == 0) | (name_byte(c) & (u8_at(name, k) != 0)));
+        ok = ok & ((c == 0) | (name_byte(c) & (before != 0)));
+        before = c;
         k += 1;
     }
-    name_byte(u8_at(name, 0)) & ok
+    name_byte(first) & ok
 }
 
 // Eight bytes are zeros where their number is.

@@ -17,6 +17,7 @@ use Rattle.flow.proofs.rows.block_rows.Reads as reads
 use Rattle.flow.proofs.rows.block_rows.Lts as lts
 use Rattle.flow.proofs.rows.put_ending.Reads as put-ending-reads
 use Rattle.flow.proofs.rows.put_four.Reads as put-four-reads
+use Rattle.flow.proofs.rows.rises_in.Reads as rises-in-reads
 use Rattle.lists.proofs.reads.from.Reads as from-reads
 use Rattle.record.proofs.blocks.edges_in.Reads as edges-in-reads
 use Rattle.record.proofs.blocks.instructions_in.Reads as instructions-in-reads
@@ -24,12 +25,15 @@ use Rattle.record.proofs.layout.marks_at.Reads as marks-at-reads
 use Rattle.record.proofs.layout.size.Reads as size-reads
 
 abbrev Inv-loop : tie.InvT-loop
-Inv-loop rec h out₀ marks first₀ edge₀ k₀ out first edge k =
+Inv-loop rec h out₀ rises marks first₀ edge₀ k₀ out first edge k =
     (k ≤ h .blocks) × (marks ≡ marksOf h rec) × (first ≡ firstInstruction marks k) × (edge ≡ firstEdge marks k)
     × Left (blockRow h rec) (h .blocks) out₀ (8 * k) out k
 
 abbrev μ-loop : tie.MeasureT-loop
-μ-loop rec h out₀ marks first₀ edge₀ k₀ out first edge k = h .blocks - k
+μ-loop rec h out₀ rises marks first₀ edge₀ k₀ out first edge k = h .blocks - k
+
+rises-in-requires : tie.Need-rises-in-requires Inv-loop μ-loop
+rises-in-requires c κs = search needs
 
 marks-at-requires : tie.Need-marks-at-requires Inv-loop μ-loop
 marks-at-requires c κs = search needs
@@ -63,21 +67,21 @@ put-ending-requires : tie.Need-put-ending-requires Inv-loop μ-loop
 put-ending-requires c κs =
     let l = c .before .before .before .before .before .before .before .before .before .before in
     let v = l .loop .inv in
-    let s = l .before .before .before .before .before in
-    block-has _ _ (s .pre) _ (c .before .before .before .before .before .before .before .before .if1 .taken) _ (v .1) _ _ (omega arith) (v .2) (c .before .before .before .before .before .before .before .instructions-in .ensures .0)
+    let s = l .before .before .before .before .before .before in
+    (l .before .before .before .rises-in .ensures, block-has _ _ (s .pre) _ (c .before .before .before .before .before .before .before .before .if1 .taken) _ (v .1) _ _ (omega arith) (v .2) (c .before .before .before .before .before .before .before .instructions-in .ensures .0))
 
 add-first : tie.Need-add-first Inv-loop μ-loop
 add-first c =
     let l = c .before .before .before .before .before .before .before .before .before .before .before .before .before in
     let v = l .loop .inv in
-    let s = l .before .before .before .before .before in
+    let s = l .before .before .before .before .before .before in
     omega (arith, block-has _ _ (s .pre) _ (c .before .before .before .before .before .before .before .before .before .before .before .if1 .taken) _ (v .1) _ _ (omega arith) (v .2) (c .before .before .before .before .before .before .before .before .before .before .instructions-in .ensures .0) .fits)
 
 add-edge : tie.Need-add-edge Inv-loop μ-loop
 add-edge c =
     let l = c .before .before .before .before .before .before .before .before .before .before .before .before .before in
     let v = l .loop .inv in
-    let s = l .before .before .before .before .before in
+    let s = l .before .before .before .before .before .before in
     omega (arith, edges-fit _ _ (s .pre) _ (c .before .before .before .before .before .before .before .before .before .before .before .if1 .taken) _ (v .1) _ _ (omega arith) (v .3) (c .before .before .before .before .before .before .before .before .before .edges-in .ensures .0))
 
 add-k : tie.Need-add-k Inv-loop μ-loop
@@ -91,7 +95,7 @@ unfolding blockRow
 loop-again c =
     let l = c .before .before .before .before .before .before .before .before .before .before .before .before .before in
     let v = l .loop .inv in
-    let a = l .before .before .before .before .before .args in
+    let a = l .before .before .before .before .before .before .args in
     let s = c .before .before .before .before .before .before in (
       search needs,
       v .1,
@@ -114,6 +118,7 @@ block-rows-spec =
     (tie.spec
     Inv-loop
     μ-loop
+    rises-in-requires
     marks-at-requires
     from-requires
     loop-holds

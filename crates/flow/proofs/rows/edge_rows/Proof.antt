@@ -14,6 +14,7 @@ use Rattle.flow.proofs.rows.edge_rows.Reads as reads
 use Rattle.flow.proofs.rows.edge_rows.Lts as lts
 use Rattle.flow.proofs.rows.place_of.Reads as place-of-reads
 use Rattle.flow.proofs.rows.put_two.Reads as put-two-reads
+use Rattle.flow.proofs.rows.rises_in.Reads as rises-in-reads
 use Rattle.lists.proofs.reads.from.Reads as from-reads
 use Rattle.record.proofs.blocks.edge_kind_at.Reads as edge-kind-at-reads
 use Rattle.record.proofs.blocks.target_at.Reads as target-at-reads
@@ -22,10 +23,13 @@ use Rattle.record.proofs.layout.size.Reads as size-reads
 use Rattle.record.proofs.layout.targets_at.Reads as targets-at-reads
 
 abbrev Inv-loop : tie.InvT-loop
-Inv-loop rec h out₀ targets kinds e₀ out e = (e ≤ h .edges) × (targets ≡ targetsOf h rec) × (kinds ≡ edgeKindsOf h rec) × Left (edgeRow h rec) (h .edges) out₀ (2 * e) out e
+Inv-loop rec h out₀ rises targets kinds e₀ out e = (e ≤ h .edges) × (targets ≡ targetsOf h rec) × (kinds ≡ edgeKindsOf h rec) × Left (edgeRow h rec) (h .edges) out₀ (2 * e) out e
 
 abbrev μ-loop : tie.MeasureT-loop
-μ-loop rec h out₀ targets kinds e₀ out e = h .edges - e
+μ-loop rec h out₀ rises targets kinds e₀ out e = h .edges - e
+
+rises-in-requires : tie.Need-rises-in-requires Inv-loop μ-loop
+rises-in-requires c κs = search needs
 
 targets-at-requires : tie.Need-targets-at-requires Inv-loop μ-loop
 targets-at-requires c κs = search needs
@@ -96,6 +100,7 @@ edge-rows-spec =
     (tie.spec
     Inv-loop
     μ-loop
+    rises-in-requires
     targets-at-requires
     from-requires
     edge-kinds-at-requires

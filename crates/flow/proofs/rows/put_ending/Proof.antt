@@ -70,7 +70,7 @@ returns c =
     let b = c .before .before .before .before .before in
     let m = b .before .before .before .before .before .before in
     let a = m .before .before .before .before .before in
-    ending-stored _ _ _ _ _ (a .pre) _ _ _ _ _ _ _ _ _ _ (array _ _ _ _ (m .before .before .marks-at .ensures .0) (m .before .from .ensures .0)) (m .label-mark .ensures)
+    ending-stored _ _ _ _ _ (a .pre .1) _ _ _ _ _ _ _ _ _ _ (array _ _ _ _ (m .before .before .marks-at .ensures .0) (m .before .from .ensures .0)) (m .label-mark .ensures)
     (array _ _ _ _ (b .before .before .before .before .before .bodies-at .ensures .0) (b .before .before .before .before .from2 .ensures .0)) (b .before .before .before .last-at .ensures) (b .before .before .body-at .ensures)
     (b .before .ending-in .ensures) (b .branch-in .ensures) (c .before .before .before .size .ensures .0) (c .before .before .put-four .ensures)
 

@@ -1,28 +1,38 @@
 -- `text_start` meets its contract.
--- The invariant: the lengths so far, summed.
+-- Where pairs are missing the invariant: the lengths so far, summed.
 use mathlib.Core.Path.{_≡_}
-use mathlib.Core.Bool.{_&&_}
-use Prim.Native.Nat.{ℕ, _+_, _*_, _≤_, _-_}
+use Prim.Native.Nat.{_*_, _≤_, _-_}
 use native.Mathlib.Omega.{arith}
 use borrow.Author.Needs.{needs}
-use lib.Dec.{leb}
-use Rattle.lists.specs.Bytes.{u8At}
-use Rattle.lists.specs.Choice.{allBelow, sumBelow}
-use Rattle.lists.specs.Below.{all-more, sum-more}
-use Rattle.record.specs.Atlas.{entryLength, textStart}
+use Rattle.record.specs.Atlas.{textStart}
+use Rattle.record.specs.Running.{text-more}
 use Rattle.record.proofs.atlas.text_start.Statement.{statement}
 use Rattle.record.proofs.atlas.text_start.Tie as tie
 use Rattle.record.proofs.atlas.text_start.Reads as reads
 use Rattle.record.proofs.atlas.text_start.Lts as lts
 use Rattle.record.proofs.atlas.entry_length.Reads as entry-length-reads
+use Rattle.record.proofs.atlas.plain_start.Reads as plain-start-reads
 
 abbrev Inv-loop : tie.InvT-loop
-Inv-loop pairs k sum₀ i₀ sum i = (i ≤ k) × (sum ≤ 255 * i) × (sum ≡ sumBelow (entryLength pairs) i)
+Inv-loop pairs k sum₀ i₀ sum i = (i ≤ k) × (sum ≤ 255 * i) × (sum ≡ textStart pairs i)
 
 abbrev μ-loop : tie.MeasureT-loop
 μ-loop pairs k sum₀ i₀ sum i = k - i
 
+mul-if1 : tie.Need-mul-if1 Inv-loop μ-loop
+mul-if1 c = search needs
+
+plain-start-requires : tie.Need-plain-start-requires Inv-loop μ-loop
+plain-start-requires c κs = search needs
+
+cast-result : tie.Need-cast-result Inv-loop μ-loop
+cast-result c = search needs
+
+returns : tie.Need-returns Inv-loop μ-loop
+returns c = search needs
+
 loop-holds : tie.Need-loop-holds Inv-loop μ-loop
+unfolding textStart
 loop-holds c = search needs
 
 entry-length-requires : tie.Need-entry-length-requires Inv-loop μ-loop
@@ -41,14 +51,13 @@ loop-less : tie.Need-loop-less Inv-loop μ-loop
 loop-less c = search needs
 
 loop-again : tie.Need-loop-again Inv-loop μ-loop
-loop-again c = (search needs, search needs, rw sum-more (omega arith))
+loop-again c = (search needs, search needs, rw text-more (omega arith))
 
-returns : tie.Need-returns Inv-loop μ-loop
-unfolding textStart
-returns c =
+returns-2 : tie.Need-returns-2 Inv-loop μ-loop
+returns-2 c =
     let l = c .before in
-    let e : l .loop .i ≡ l .before .before .args .k = omega arith in
-    simp (l .loop .inv .2, e)
+    let e : l .loop .i ≡ l .before .before .before .args .k = omega arith in
+    rw (← e) (l .loop .inv .2)
 
 pub text-start-spec : {M : Type 1} → statement M
 text-start-spec =
@@ -56,6 +65,10 @@ text-start-spec =
     (tie.spec
     Inv-loop
     μ-loop
+    mul-if1
+    plain-start-requires
+    cast-result
+    returns
     loop-holds
     entry-length-requires
     cast-sum
@@ -63,4 +76,4 @@ text-start-spec =
     add-i
     loop-less
     loop-again
-    returns)
+    returns-2)
