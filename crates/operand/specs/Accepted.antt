@@ -1,31 +1,19 @@
 -- A record whose questions all got a yes has atlas addresses that rise.
 -- Question 9 asks it of each entry but the first.
-use mathlib.Core.Path.{_≡_, refl, sym, ap, _∙_}
-use mathlib.Core.Bool.{Bool, true, false, _&&_, _||_}
+use mathlib.Core.Path.{_≡_}
+use mathlib.Core.Bool.{true, _&&_}
 use mathlib.Core.List.{List}
-use Prim.Native.Nat.{ℕ, zero, suc, _+_, _-_, _<_}
-use native.Mathlib.Decide.{ℕ-discrete}
-use native.Mathlib.Nat.{not-suc-le-zero}
+use Prim.Native.Nat.{ℕ, suc, _-_, _<_}
 use native.Mathlib.Omega.{arith}
-use lib.Dec.{eqb, ltb}
 use borrow.Author.Tests.{ltb-true, ne-eqb}
-use Rattle.lists.specs.Choice.{allBelow}
 use Rattle.record.specs.declared.header.Header.{Header}
 use Rattle.record.specs.Header.{headerOf}
 use Rattle.record.specs.Layout.{entriesOf, pairsOf, textsOf}
 use Rattle.record.specs.Atlas.{entryAddress, entryKind, rises, entryKindOk, entriesOk, atlasOk}
 use Rattle.record.specs.Asked.{atlasAsked, firstNo}
 use Rattle.record.specs.AskedLaws.{both-yes, yes-atlas}
+use Rattle.record.specs.Rising.{all-at}
 use Rattle.operand.specs.Lent.{Rising}
-
--- a test that passes below n passes at each number there
-all-at : (p : ℕ → Bool) (n i : ℕ) → allBelow p n ≡ true → i < n → p i ≡ true
-all-at p zero i h l = absurd (not-suc-le-zero l)
-all-at p (suc n) i h l = go (ℕ-discrete i n) (all-at p n i (both-yes (allBelow p n) (p n) h .0))
-  where
-    go : Dec (i ≡ n) → (i < n → p i ≡ true) → p i ≡ true
-    go (yes q) ih = rw q (both-yes (allBelow p n) (p n) h .1)
-    go (no q) ih = ih (omega arith)
 
 entries-rise : (entries pairs : List ℕ) (A : ℕ) → entriesOk entries pairs A ≡ true → (k : ℕ) → suc k < A → entryAddress entries k < entryAddress entries (suc k)
 unfolding entriesOk

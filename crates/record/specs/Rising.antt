@@ -25,7 +25,7 @@ rise f n r i (suc j) a b =
     ]
 
 -- a test that passes below n passes at each number there, and the other way round
-all-at : (p : ℕ → Bool) (n i : ℕ) → allBelow p n ≡ true → i < n → p i ≡ true
+pub all-at : (p : ℕ → Bool) (n i : ℕ) → allBelow p n ≡ true → i < n → p i ≡ true
 all-at p zero i h l = absurd (not-suc-le-zero l)
 all-at p (suc n) i h l =
     elim (ℕ-discrete i n) [

@@ -4,12 +4,13 @@ use Prim.Native.Nat.{ℕ, _≤_, _<_, _-_}
 use native.Mathlib.Omega.{arith}
 use borrow.Author.Needs.{needs}
 use Rattle.record.specs.Atlas.{entryAddress}
-use Rattle.operand.proofs.Search.{missing, found, below, above}
+use Rattle.record.specs.Halving.{Between, between-all, go-up, go-down}
+use Rattle.operand.proofs.Search.{entries-rise, missing, found}
 use Rattle.operand.proofs.names.entry_at.Statement.{statement}
 use Rattle.operand.proofs.names.entry_at.Tie as tie
 
 abbrev Inv-loop : tie.InvT-loop
-Inv-loop rec va entries low₀ high₀ low high = (low ≤ high) × (high ≤ high₀) × ((j : ℕ) → j < low → entryAddress entries j < va) × ((j : ℕ) → high ≤ j → j < high₀ → va < entryAddress entries j)
+Inv-loop rec va entries low₀ high₀ low high = (low ≤ high) × (high ≤ high₀) × Between (entryAddress entries) high₀ va low high
 
 abbrev μ-loop : tie.MeasureT-loop
 μ-loop rec va entries low₀ high₀ low high = high - low
@@ -21,7 +22,7 @@ from-requires : tie.Need-from-requires Inv-loop μ-loop
 from-requires c κs = search needs
 
 loop-holds : tie.Need-loop-holds Inv-loop μ-loop
-loop-holds c = (omega arith, omega arith, (λ j x. absurd (omega arith)), λ j x y. absurd (omega arith))
+loop-holds c = (omega arith, omega arith, between-all _ _ _)
 
 sub-mid : tie.Need-sub-mid Inv-loop μ-loop
 sub-mid c = search needs
@@ -46,7 +47,8 @@ loop-less c = search needs
 loop-again : tie.Need-loop-again Inv-loop μ-loop
 loop-again c =
     let l = c .before .before .before .before in
-    (omega arith, omega arith, below (l .before .before .before .before .args .h) _ _ _ (l .before .from .ensures .0) (l .before .before .entries-at .ensures .0) (l .before .before .before .before .pre) _ _ _ (c .before .before .entry-address .ensures) (omega arith) (c .if2 .taken), l .loop .inv .3)
+    let r = entries-rise (l .before .before .before .before .args .h) _ _ _ (l .before .from .ensures .0) (l .before .before .entries-at .ensures .0) (l .before .before .before .before .pre) in
+    (omega arith, omega arith, go-up r (c .before .before .entry-address .ensures) (omega arith) (l .loop .inv .2) (c .if2 .taken))
 
 loop-less-2 : tie.Need-loop-less-2 Inv-loop μ-loop
 loop-less-2 c = search needs
@@ -54,12 +56,13 @@ loop-less-2 c = search needs
 loop-again-2 : tie.Need-loop-again-2 Inv-loop μ-loop
 loop-again-2 c =
     let l = c .before .before .before .before in
-    (omega arith, omega arith, l .loop .inv .2, above (l .before .before .before .before .args .h) _ _ _ (l .before .from .ensures .0) (l .before .before .entries-at .ensures .0) (l .before .before .before .before .pre) _ _ _ (c .before .before .entry-address .ensures) (omega arith) (c .if2 .left) (c .before .if1 .left))
+    let r = entries-rise (l .before .before .before .before .args .h) _ _ _ (l .before .from .ensures .0) (l .before .before .entries-at .ensures .0) (l .before .before .before .before .pre) in
+    (omega arith, omega arith, go-down r (c .before .before .entry-address .ensures) (omega arith) (l .loop .inv .2) (c .if2 .left) (c .before .if1 .left))
 
 returns-2 : tie.Need-returns-2 Inv-loop μ-loop
 returns-2 c =
     let l = c .before in
-    missing (l .before .before .before .before .args .h) _ _ _ (l .before .from .ensures .0) (l .before .before .entries-at .ensures .0) _ _ _ (c .loop-test .left) (l .loop .inv .2) (l .loop .inv .3)
+    missing (l .before .before .before .before .args .h) _ _ _ (l .before .from .ensures .0) (l .before .before .entries-at .ensures .0) _ _ _ (l .loop .inv .2) (c .loop-test .left)
 
 pub entry-at-spec : {M : Type 1} → statement M
 entry-at-spec =
