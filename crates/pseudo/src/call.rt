@@ -106,7 +106,61 @@ fn list_draft(
     Answer::Listed(sizes)
 }
 
-// The listing of a plan. The draft has room for most listings; it is printed before any lent list is touched.
+// The listing of a plan by way of a draft on four lists, printed before any other list is touched.
+fn list_by_draft(
+    text: &mut [u8],
+    ends: &mut [u32],
+    kinds: &mut [u8],
+    addresses: &mut [u64],
+    marks: &mut [u16],
+    lines: &mut [u32],
+    t: &mut [u8],
+    e: &mut [u32],
+    k: &mut [u8],
+    l: &mut [u32],
+    words: &[u8],
+    isa: &[u8],
+    rec: &[u8],
+    h: Header,
+    rows: &[u8],
+    blocks: &[u16],
+    range: u16,
+    codes: &[u64],
+) -> Answer
+    requires { ⌜ Lent (now words) (now isa) h (now rec) ⌝ }
+    requires { ⌜ now rows ≡ rowBytes ⌝ }
+    requires { ⌜ now blocks ≡ blockRows h (now rec) ⌝ }
+    requires { ⌜ Fits (printed h (now rec) range 0 (map lineIn (now codes))) ⌝ }
+    requires { ⌜ Indented (now codes) ⌝ }
+    ensures { λ r. ⌜ PlanListed h (now (rec .entry)) range (map lineIn (now (codes .entry)))
+        (now (text .entry)) (now (text .exit)) (now (ends .entry)) (now (ends .exit)) (now (kinds .entry)) (now (kinds .exit))
+        (now (addresses .entry)) (now (addresses .exit)) (now (marks .entry)) (now (marks .exit)) (now (lines .entry)) (now (lines .exit)) r ⌝ }
+{
+    let sizes = draft_plan(t, e, k, l, words, isa, rec, h, rows, blocks, range, codes);
+    list_draft(
+        text,
+        ends,
+        kinds,
+        addresses,
+        marks,
+        lines,
+        t,
+        e,
+        k,
+        l,
+        sizes,
+        words,
+        isa,
+        rec,
+        h,
+        rows,
+        blocks,
+        range,
+        codes,
+    )
+}
+
+// The listing of a plan. The draft has room for most listings of as many lines; a shorter one costs less to make.
 fn list_plan(
     text: &mut [u8],
     ends: &mut [u32],
@@ -132,36 +186,47 @@ fn list_plan(
         (now (text .entry)) (now (text .exit)) (now (ends .entry)) (now (ends .exit)) (now (kinds .entry)) (now (kinds .exit))
         (now (addresses .entry)) (now (addresses .exit)) (now (marks .entry)) (now (marks .exit)) (now (lines .entry)) (now (lines .exit)) r ⌝ }
 {
+    if codes.len() <= 256 {
+        let mut t = [0u8; 8192];
+        let mut e = [0u32; 2048];
+        let mut k = [0u8; 2048];
+        let mut l = [0u32; 256];
+        return list_by_draft(
+            text,
+            ends,
+            kinds,
+            addresses,
+            marks,
+            lines,
+            &mut t,
+            &mut e,
+            &mut k,
+            &mut l,
+            words,
+            isa,
+            rec,
+            h,
+            rows,
+            blocks,
+            range,
+            codes,
+        );
+    }
     let mut t = [0u8; 16384];
     let mut e = [0u32; 4096];
     let mut k = [0u8; 4096];
     let mut l = [0u32; 900];
-    let sizes = draft_plan(
-        &mut t,
-        &mut e,
-        &mut k,
-        &mut l,
-        words,
-        isa,
-        rec,
-        h,
-        rows,
-        blocks,
-        range,
-        codes,
-    );
-    list_draft(
+    list_by_draft(
         text,
         ends,
         kinds,
         addresses,
         marks,
         lines,
-        &t,
-        &e,
-        &k,
-        &l,
-        sizes,
+        &mut t,
+        &mut e,
+        &mut k,
+        &mut l,
         words,
         isa,
         rec,

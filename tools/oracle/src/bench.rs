@@ -24,12 +24,14 @@ impl Times {
     }
 }
 
+const TURNS: u32 = 5;
+
 /// Prints each set's times, the growth with the number of blocks, and the ratios as the last line.
 pub fn run() -> Result<bool, String> {
     let sets = sets();
     let mut ratios = Vec::new();
     for set in &sets {
-        let times: Vec<Times> = set.records.iter().map(|r| measure(r, Duration::from_millis(40))).collect();
+        let times: Vec<Times> = set.records.iter().map(|r| measure(r, Duration::from_millis(100))).collect();
         let ratio = print_set(set, &times);
         ratios.push(format!("{} {ratio:.1}", set.name));
     }
@@ -71,12 +73,15 @@ fn sets() -> [Set; 3] {
     [Set { name: "straight", records: straight }, Set { name: "flow", records: flow }, Set { name: "worst", records: worst }]
 }
 
-/// The best of several runs, since what disturbs a run only makes it longer.
+/// The best of several runs, since what disturbs a run only makes it longer; the two take turns, so that it disturbs both.
 fn measure(record: &Record, budget: Duration) -> Times {
     let bytes = record.to_bytes();
     let n = record.layout().i.max(1) as f64;
-    let rust = best(budget, |times| emitter::time(record, times));
-    let port = best(budget, |times| abi::time(&bytes, record.blocks.len(), times));
+    let (mut rust, mut port) = (f64::MAX, f64::MAX);
+    for _ in 0..TURNS {
+        rust = rust.min(best(budget / TURNS, |times| emitter::time(record, times)));
+        port = port.min(best(budget / TURNS, |times| abi::time(&bytes, record.blocks.len(), times)));
+    }
     Times { rust: rust / n, port: port / n }
 }
 
