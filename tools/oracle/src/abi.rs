@@ -59,16 +59,26 @@ fn call(bytes: &[u8], from: usize, to: usize, l: &mut Lists) -> (u8, [usize; 3])
     (no, sizes.map(|n| n as usize))
 }
 
-/// How long `times` calls for the whole range take, on lists with room to spare.
-pub fn time(bytes: &[u8], blocks: usize, times: usize) -> std::time::Duration {
-    let room = |n: usize| Lists {
+/// Lists with room to spare for n tokens.
+fn room(n: usize) -> Lists {
+    Lists {
         text: vec![0; 16 * n],
         ends: vec![0; n],
         kinds: vec![0; n],
         addresses: vec![0; 900],
         marks: vec![0; 900],
         line_ends: vec![0; 900],
-    };
+    }
+}
+
+/// How many bytes the six lists of the whole range's listing have.
+pub fn written(bytes: &[u8], blocks: usize) -> usize {
+    let (_, [text, tokens, lines]) = call(bytes, 0, blocks, &mut room(1 << 20));
+    text + tokens * (4 + 1) + lines * (8 + 2 + 4)
+}
+
+/// How long `times` calls for the whole range take, on lists with room to spare.
+pub fn time(bytes: &[u8], blocks: usize, times: usize) -> std::time::Duration {
     let mut lists = room(1 << 20);
     let began = std::time::Instant::now();
     for _ in 0..times {

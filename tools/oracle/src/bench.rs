@@ -99,6 +99,18 @@ fn best(budget: Duration, time: impl Fn(usize) -> Duration) -> f64 {
     least
 }
 
+/// Bytes of the records and of their listings' lists, an instruction.
+fn moved(set: &Set) -> (f64, f64) {
+    let (mut read, mut written, mut instructions) = (0, 0, 0);
+    for record in &set.records {
+        let bytes = record.to_bytes();
+        read += bytes.len();
+        written += abi::written(&bytes, record.blocks.len());
+        instructions += record.layout().i;
+    }
+    (read as f64 / instructions as f64, written as f64 / instructions as f64)
+}
+
 /// The set's mean times and ratio; of the set `worst` the least ratio of a record.
 fn print_set(set: &Set, times: &[Times]) -> f64 {
     let n = times.len() as f64;
@@ -111,6 +123,8 @@ fn print_set(set: &Set, times: &[Times]) -> f64 {
         times.len(),
         rust / port
     );
+    let (read, written) = moved(set);
+    println!("  an instruction has {read:.0} bytes of record and {written:.0} of lists");
     if set.name == "worst" {
         for (r, t) in set.records.iter().zip(times) {
             let l = r.layout();
