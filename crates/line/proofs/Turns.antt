@@ -19,7 +19,7 @@ use Rattle.record.specs.Layout.{bodiesOf}
 use Rattle.record.specs.Body.{bodyAt, mnemonicOf}
 use Rattle.structure.specs.Plan.{What}
 use Rattle.structure.specs.Plan.What.{insn-line}
-use Rattle.structure.specs.Flow.{firstIn}
+use Rattle.structure.specs.Graph.{firstIn}
 use Rattle.structure.specs.Reads.{whatIn, instructionIn, placeIn}
 use Rattle.flow.specs.Rows.{blockRows}
 use Rattle.line.specs.declared.print.Site.{Site}

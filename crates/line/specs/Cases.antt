@@ -29,7 +29,7 @@ use Rattle.operand.specs.Memory.{slotBase, slotNumber, isSlot, slotToken, displ
 use Rattle.operand.specs.Operand.{signedRead, immediateNumber, immediate, opTokens}
 use Rattle.line.specs.Condition.{flagWriter, afterWriter, conditionTokens}
 use Rattle.record.specs.Blocks.{firstInstruction, firstEdge}
-use Rattle.structure.specs.Flow.{closesLoop, hasEdge, endingIn, singleEntry, escapes as leaves, outsideJump}
+use Rattle.structure.specs.Graph.{closesLoop, hasEdge, endingIn, singleEntry, escapes as leaves, outsideJump}
 use Rattle.structure.specs.Shape.{shapeAt, lastLoop, lastFrom, regionAt, opensRegion}
 use Rattle.structure.specs.Plan.{rangeLines, rangeGo, plainLines, shownLines, bodyCount, closingLines, loopLines, flatLines, flatBlock, testBlock}
 use Rattle.flow.specs.Silent.{isQuiet, isPrologueNoise, endingOf}

@@ -8,16 +8,16 @@ use native.Mathlib.Decide.{decLe}
 use native.Mathlib.Omega.{arith}
 use Rattle.lists.specs.Choice.{anyBelow, pick}
 use Rattle.lists.specs.Below.{any-found, any-goes-on}
-use Rattle.structure.specs.Flow.{firstEdgeIn, edgesIn, hasEdge}
+use Rattle.structure.specs.Graph.{firstEdgeIn, edgesIn, hasEdge}
 use Rattle.structure.specs.Shape.{lastFrom}
 use Rattle.structure.specs.declared.shape.Found.the-variants.{At, Nothing}
 
-module _ (blocks edges : List ℕ) (p : ℕ → Bool) (k first n m : ℕ) (f : first ≡ firstEdgeIn blocks k) (h : n ≡ edgesIn blocks k) where
-  pub edge-found : m < n → p (first + m) ≡ true → true ≡ hasEdge blocks edges p k
+module _ (blocks : List ℕ) (p : ℕ → Bool) (k first n m : ℕ) (f : first ≡ firstEdgeIn blocks k) (h : n ≡ edgesIn blocks k) where
+  pub edge-found : m < n → p (first + m) ≡ true → true ≡ hasEdge blocks p k
   unfolding hasEdge
   edge-found lt e = sym (any-found (λ j. p (firstEdgeIn blocks k + j)) (edgesIn blocks k) m (omega arith) (rw f at e))
 
-  pub edge-none : m ≤ n → n ≤ m → anyBelow (λ j. p (first + j)) m ≡ false → false ≡ hasEdge blocks edges p k
+  pub edge-none : m ≤ n → n ≤ m → anyBelow (λ j. p (first + j)) m ≡ false → false ≡ hasEdge blocks p k
   unfolding hasEdge
   edge-none le ge e =
       let s : m ≡ edgesIn blocks k = omega arith in

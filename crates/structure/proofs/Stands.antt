@@ -6,7 +6,7 @@ use mathlib.Core.List.{List}
 use Prim.Native.Nat.{ℕ, _+_, _-_}
 use lib.Dec.{ltb}
 use Rattle.lists.specs.Choice.{pick}
-use Rattle.structure.specs.Flow.{closesLoop, singleEntry}
+use Rattle.structure.specs.Graph.{closesLoop, singleEntry}
 use Rattle.structure.specs.Shape.{lastFrom, lastLoop, loopAt, regionAt, shapeAt}
 use Rattle.structure.specs.declared.shape.Found.{Found}
 use Rattle.structure.specs.declared.shape.Found.the-variants.{At, Nothing}

@@ -4,7 +4,7 @@ use mathlib.Core.List.{List}
 use mathlib.Core.Bool.{Bool, not, _&&_}
 use lib.Dec.{ltb, leb, eqb}
 use Rattle.lists.specs.Choice.{pick}
-use Rattle.structure.specs.Flow.{endingIn, branchTo, closesLoop, singleEntry, escapes}
+use Rattle.structure.specs.Graph.{endingIn, branchTo, closesLoop, singleEntry, escapes}
 use Rattle.structure.specs.declared.shape.Found.{Found}
 use Rattle.structure.specs.declared.shape.Found.the-variants.{At, Nothing}
 use Rattle.structure.specs.declared.shape.Shape.{Shape}

@@ -9,7 +9,7 @@ use lib.Dec.{ltb, leb, eqb}
 use lib.ListN.{getD}
 use borrow.Author.Tests.{ltb-true, leb-true, eqb-true, eqb-false}
 use Rattle.lists.specs.Choice.{pick}
-use Rattle.structure.specs.Flow.{countIn, endingIn, branchTo, closesLoop, hasEdge, trueEdgeTo, singleEntry, escapes, labelWanted, outsideJump}
+use Rattle.structure.specs.Graph.{countIn, endingIn, branchTo, closesLoop, hasEdge, trueEdgeTo, singleEntry, escapes, labelWanted, outsideJump}
 use Rattle.structure.specs.Shape.{lastFrom, lastLoop, opensRegion, regionAt, loopAt, shapeAt}
 use Rattle.structure.specs.declared.shape.Found.{Found}
 use Rattle.structure.specs.declared.shape.Found.the-variants.{At, Nothing}
@@ -95,7 +95,7 @@ module _ (blocks : List ℕ) where
     loop-within i to Nothing h ok = region-within i to h
     loop-within i to (At j) h ok =
         pick-both (Within i to) (ltb i j && singleEntry blocks edges B i (j + 1)) (Loop j) (regionAt blocks edges starts targets B i to)
-        (λ e. (ltb-true i j (both-true (ltb i j) _ e .0), omega arith, condition-some blocks j (both-true (hasEdge blocks edges (trueEdgeTo blocks edges i) j) _ (ok .2) .1)))
+        (λ e. (ltb-true i j (both-true (ltb i j) _ e .0), omega arith, condition-some blocks j (both-true (hasEdge blocks (trueEdgeTo edges i) j) _ (ok .2) .1)))
         (λ e. region-within i to h)
 
     pub shape-within : (i to : ℕ) → i < to → Within i to (shapeAt blocks edges starts targets B i to)

@@ -1,16 +1,16 @@
 // The lines of a do-loop: its label, its do-line, its body, which is flat, and its while-line.
 use crate::blocks::body_lines;
-use crate::flow::Place;
-use crate::flow::count_in;
-use crate::flow::ending_in;
-use crate::flow::first_in;
-use crate::flow::label_wanted;
-use crate::flow::last_in;
+use crate::graph::count_in;
+use crate::graph::ending_in;
+use crate::graph::first_in;
+use crate::graph::label_wanted;
+use crate::graph::last_in;
 use crate::lines::label;
 use crate::lines::one_less;
 use crate::lines::put_line;
 use crate::lines::shown_lines;
 use crate::tests::has_outside_jump_to;
+use record::blocks::Place;
 ghost use mathlib.Core.Path.{_≡_};
 ghost use Prim.Native.Nat.{_+_, _-_, _<_, _≤_};
 ghost use Rattle.structure.specs.Plan.{flatBlock, flatLines, testBlock, loopLines};

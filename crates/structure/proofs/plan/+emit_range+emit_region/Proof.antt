@@ -12,7 +12,7 @@ use Rattle.structure.specs.Codes.{codes}
 use Rattle.structure.specs.Parts.{region-parts}
 use Rattle.structure.specs.Turns.{range-over, turn-loop, turn-region, turn-plain, loop-reach, region-reach}
 use Rattle.structure.specs.Stored.{Left, left-all, left-step, left-done, left-part, left-length, room-first, room-second, room-third, room-one, stored-three, stored-length}
-use Rattle.structure.proofs.Ended.{ends-within}
+use Rattle.structure.proofs.Sourced.{ends-within}
 use Rattle.structure.proofs.plan.emit_range.Reads as range-reads
 use Rattle.structure.proofs.plan.emit_range.Kinds as range-kinds
 use Rattle.structure.proofs.plan.+emit_range+emit_region.Lts-emit_range as range
