@@ -2,21 +2,21 @@
 -- Each note is a choice by a test, so that notes one after another are the definitions' choices; no block before a first source
 -- or behind a last one is a source, and a part whose places are not exposed is entered only at its first.
 use mathlib.Core.Path.{_≡_, refl, sym, ap, _∙_}
-use mathlib.Core.Bool.{Bool, true, false, not, _&&_, _||_, and-false, and-true}
+use mathlib.Core.Bool.{Bool, true, false, not, _&&_, _||_, and-false, and-true, or-true, or-false}
 use mathlib.Core.List.{List}
 use Prim.Native.Nat.{ℕ, zero, suc, _+_, _-_, _≤_, _<_}
 use native.Mathlib.Decide.{ℕ-discrete, decLe}
 use native.Mathlib.Omega.{arith}
 use lib.Dec.{eqb, ltb, leb}
-use lib.ListN.{length, getD, set, length-set}
+use lib.ListN.{length, getD, set, replicate, length-set, length-replicate, getD-replicate, List·getD-eq-default}
 use lib.Seq.{getD-set-same, getD-set-other}
-use borrow.Author.Tests.{eq-eqb, ne-eqb, lt-ltb, le-ltb, le-leb, lt-leb, ltb-true, ltb-false, leb-false}
+use borrow.Author.Tests.{eq-eqb, eqb-true, ne-eqb, lt-ltb, le-ltb, le-leb, lt-leb, ltb-true, ltb-false, leb-false}
 use Rattle.lists.specs.Choice.{pick, anyBelow}
 use Rattle.lists.specs.Below.{any-found, any-more}
-use Rattle.structure.specs.Graph.{firstEdgeIn, edgesIn, edgeTo, edgeKind, goesTo, trueEdgeTo, hasEdge, hasCondition, closesLoop, outside, enters, singleEntry}
+use Rattle.structure.specs.Graph.{firstEdgeIn, edgesIn, edgeTo, edgeKind, goesTo, trueEdgeTo, hasEdge, hasCondition, closesLoop, outside, enters, jumpTo, singleEntry, outsideJump}
 use Rattle.structure.specs.Shape.{lastFrom}
 use Rattle.structure.specs.Within.{false-true}
-use Rattle.structure.specs.Sources.{firstSource, lastSource, Entries, arrives, isSource, searchEnd, exposed, anyExposed, Ends, Sources}
+use Rattle.structure.specs.Sources.{firstSource, lastSource, Entries, arrives, isSource, searchStart, searchEnd, exposed, anyExposed, Ends, Sources}
 use Rattle.structure.proofs.Found.{last-behind}
 
 -- Entries
@@ -146,6 +146,24 @@ first-none p from (suc n) d k lt f b = go (p from) refl lt (ℕ-discrete k from)
     go false e lt (yes z) ih = rw z e
     go false e lt (no z) ih = ih lt (omega arith) (omega arith)
 
+first-some : (p : ℕ → Bool) (from n d : ℕ) → firstSource p from n d < d → (firstSource p from n d < from + n) × (p (firstSource p from n d) ≡ true)
+unfolding firstSource
+first-some p from zero d lt = absurd (omega arith)
+first-some p from (suc n) d lt = go (p from) refl (firstSource p (suc from) n d) lt (first-some p (suc from) n d)
+  where
+    go : (q : Bool) → p from ≡ q → (rest : ℕ) → pick q from rest < d → (rest < d → (rest < suc from + n) × (p rest ≡ true)) → (pick q from rest < from + suc n) × (p (pick q from rest) ≡ true)
+    go true e rest lt ih = (omega arith, e)
+    go false e rest lt ih = (omega (arith, ih lt .0), ih lt .1)
+
+last-some : (p : ℕ → Bool) (from n d k : ℕ) → d ≡ 0 → lastSource p from n d ≡ suc k → (k < from + n) × (p k ≡ true)
+unfolding lastSource
+last-some p from zero d k z e = absurd (omega arith)
+last-some p from (suc n) d k z e = go (p (from + n)) refl e (last-some p from n d k z)
+  where
+    go : (q : Bool) → p (from + n) ≡ q → pick q (from + n + 1) (lastSource p from n d) ≡ suc k → (lastSource p from n d ≡ suc k → (k < from + n) × (p k ≡ true)) → (k < from + suc n) × (p k ≡ true)
+    go true t e ih = let s : k ≡ from + n = omega arith in (omega arith, rw s t)
+    go false t e ih = (omega (arith, ih e .0), ih e .1)
+
 neither : (a b : Bool) → (a || b) ≡ false → (a ≡ false) × (b ≡ false)
 neither true b e = false-true (sym e)
 neither false b e = (refl, e)
@@ -157,9 +175,38 @@ none-at p n k h lt = go (p k) refl
     go true e = false-true (sym h ∙ any-found p n k lt e)
     go false e = refl
 
+-- what follows from each test follows from one that passes
+any-gives : (p : ℕ → Bool) (n : ℕ) (g : Bool) → anyBelow p n ≡ true → ((k : ℕ) → k < n → p k ≡ true → g ≡ true) → g ≡ true
+any-gives p zero g e h = false-true e
+any-gives p (suc n) g e h = go (p n) refl (any-gives p n g) e
+  where
+    go : (b : Bool) → p n ≡ b → (anyBelow p n ≡ true → ((k : ℕ) → k < n → p k ≡ true → g ≡ true) → g ≡ true) → (anyBelow p n || b) ≡ true → g ≡ true
+    go true q ih e = h n (omega arith) q
+    go false q ih e = ih (sym (or-false (anyBelow p n)) ∙ e) (λ k lt. h k (omega arith))
+
 any-none : (p : ℕ → Bool) (n : ℕ) → ((k : ℕ) → k < n → p k ≡ false) → anyBelow p n ≡ false
 any-none p zero h = refl
 any-none p (suc n) h = rw (any-none p n (λ k lt. h k (omega arith)), h n (omega arith))
+
+-- a part that leaves out no number that passes
+any-part : (q : ℕ → Bool) (low high n : ℕ) → high ≤ n → ((k : ℕ) → k < low → k < n → q k ≡ false) → ((k : ℕ) → high ≤ k → k < n → q k ≡ false) → anyBelow (λ m. q (low + m)) (high - low) ≡ anyBelow q n
+any-part q low high n le before behind = go (anyBelow (λ m. q (low + m)) (high - low)) refl
+  where
+    within : (k : ℕ) → anyBelow (λ m. q (low + m)) (high - low) ≡ false → low ≤ k → k < high → q k ≡ false
+    within k e a b = let u : low + (k - low) ≡ k = omega arith in ap q (sym u) ∙ none-at (λ m. q (low + m)) (high - low) (k - low) e (omega arith)
+
+    go : (b : Bool) → anyBelow (λ m. q (low + m)) (high - low) ≡ b → b ≡ anyBelow q n
+    go true e = sym (any-gives (λ m. q (low + m)) (high - low) (anyBelow q n) e (λ m lt z. any-found q n (low + m) (omega arith) z))
+    go false e = sym (any-none q n (λ k lt. elim (decLe low k) [
+      | no a ↦ before k (omega arith) lt
+      | yes a ↦ elim (decLe (suc k) high) [
+        | yes b ↦ within k e a b
+        | no b ↦ behind k (omega arith) lt
+      ]
+    ]))
+
+pub any-from-zero : (q : ℕ → Bool) (n : ℕ) → anyBelow (λ m. q (0 + m)) (n - 0) ≡ anyBelow q n
+any-from-zero q n = any-part q 0 n n (omega arith) (λ k lt b. absurd (omega arith)) (λ k le b. absurd (omega arith))
 
 module _ (blocks edges : List ℕ) where
   pub ends-are : (from to : ℕ) (l l′ : List ℕ) → Entries (λ t. lastSource (isSource blocks edges true t) from (to - from)) l l′ → Ends blocks edges from to l′
@@ -171,12 +218,31 @@ module _ (blocks edges : List ℕ) where
   pub ends-within : (from to from′ to′ : ℕ) (l : List ℕ) → Ends blocks edges from to l → from ≤ from′ → to′ ≤ to → Ends blocks edges from′ to′ l
   ends-within from to from′ to′ l h a b = record { none = λ i k lt le f t. h .none i k lt le (omega arith) (omega arith) }
 
-  pub sources-are : (n : ℕ) (l firsts m lasts : List ℕ) → Entries (λ t. firstSource (isSource blocks edges false t) 0 n) l firsts
-      → Entries (λ t. lastSource (isSource blocks edges false t) 0 (n - 0)) m lasts → Sources blocks edges n firsts lasts
-  sources-are n l firsts m lasts a b = record {
-    before = λ t k lt le c. let e = a .each t (omega (arith, lt, a .long)) in first-none (isSource blocks edges false t) 0 n (getD l t 0) k (omega (arith, e, le)) (omega arith) (omega arith);
-    behind = λ t k lt le c. let e = b .each t (omega (arith, lt, b .long)) in last-none (isSource blocks edges false t) 0 (n - 0) (getD m t 0) k (omega (arith, e, le)) (omega arith) (omega arith);
-  }
+  -- where every first entry was 65535 and every last one 0
+  module _ (n size : ℕ) (firsts lasts : List ℕ) (a : Entries (λ t. firstSource (isSource blocks edges false t) 0 n) (replicate size 65535) firsts)
+      (b : Entries (λ t. lastSource (isSource blocks edges false t) 0 (n - 0)) (replicate size 0) lasts) where
+    first-entry : (t : ℕ) → t < length firsts → getD firsts t 0 ≡ firstSource (isSource blocks edges false t) 0 n 65535
+    first-entry t lt =
+        let u : t < size = omega (arith, lt, a .long, length-replicate {A = ℕ} size 65535) in
+        a .each t (omega (arith, u, length-replicate {A = ℕ} size 65535)) ∙ ap (firstSource (isSource blocks edges false t) 0 n) (getD-replicate {A = ℕ} size t 65535 0 u)
+
+    last-entry : (t : ℕ) → t < length lasts → getD lasts t 0 ≡ lastSource (isSource blocks edges false t) 0 (n - 0) 0
+    last-entry t lt =
+        let u : t < size = omega (arith, lt, b .long, length-replicate {A = ℕ} size 0) in
+        b .each t (omega (arith, u, length-replicate {A = ℕ} size 0)) ∙ ap (lastSource (isSource blocks edges false t) 0 (n - 0)) (getD-replicate {A = ℕ} size t 0 0 u)
+
+    pub sources-are : Sources blocks edges n firsts lasts
+    sources-are = record {
+      before = λ t k lt le c. first-none (isSource blocks edges false t) 0 n 65535 k (omega (arith, first-entry t lt, le)) (omega arith) (omega arith);
+      behind = λ t k lt le c. last-none (isSource blocks edges false t) 0 (n - 0) 0 k (omega (arith, last-entry t lt, le)) (omega arith) (omega arith);
+      first-is = λ t lt le.
+          let e = first-entry t lt in
+          let f = first-some (isSource blocks edges false t) 0 n 65535 (omega (arith, e, le)) in
+          (omega (arith, e, f .0), ap (hasEdge blocks (goesTo edges t)) e ∙ f .1);
+      last-is = λ t k lt q.
+          let f = last-some (isSource blocks edges false t) 0 (n - 0) 0 k refl (sym (last-entry t lt) ∙ q) in
+          (omega (arith, f .0), f .1);
+    }
 
   -- the search may begin where `search_end` says
   pub search-behind : (ends : List ℕ) (i to j : ℕ) → Ends blocks edges i to ends → j ≡ searchEnd ends i to
@@ -204,28 +270,97 @@ module _ (blocks edges : List ℕ) where
             ]
           ]
 
-  module _ (B : ℕ) (firsts lasts : List ℕ) (h : Sources blocks edges B firsts lasts) (from to : ℕ) (s : anyExposed firsts lasts from to ≡ false) where
+  -- a block with an edge to a place of a part other than the first enters it
+  entry : (from to t k : ℕ) → from < t → t < to → hasEdge blocks (goesTo edges t) k ≡ true → hasEdge blocks (enters edges from to) k ≡ true
+  unfolding hasEdge
+  entry from to t k a b e =
+      any-gives (λ m. goesTo edges t (firstEdgeIn blocks k + m)) (edgesIn blocks k) (anyBelow (λ m. enters edges from to (firstEdgeIn blocks k + m)) (edgesIn blocks k)) e
+      (λ m lt z. let q = eqb-true (edgeTo edges (firstEdgeIn blocks k + m)) t z in any-found (λ j. enters edges from to (firstEdgeIn blocks k + j)) (edgesIn blocks k) m lt (rw (q, lt-ltb from t a, lt-ltb t to b)))
+
+  -- a jump is an edge
+  no-jump : (i k : ℕ) → hasEdge blocks (goesTo edges i) k ≡ false → hasEdge blocks (jumpTo edges i) k ≡ false
+  unfolding hasEdge
+  no-jump i k h =
+      any-none (λ m. jumpTo edges i (firstEdgeIn blocks k + m)) (edgesIn blocks k)
+      (λ m lt. let e : goesTo edges i (firstEdgeIn blocks k + m) ≡ false = none-at (λ j. goesTo edges i (firstEdgeIn blocks k + j)) (edgesIn blocks k) m h lt in rw e)
+
+  module _ (B : ℕ) (firsts lasts : List ℕ) (h : Sources blocks edges B firsts lasts) (from to : ℕ) where
     -- a place that is not exposed has its sources inside
-    inside : (t : ℕ) → from < t → t < to → (t < length firsts) × (from ≤ getD firsts t 0) × (t < length lasts) × (getD lasts t 0 ≤ to)
-    unfolding anyExposed
-    inside t a b =
-        let u : from + 1 + (t - (from + 1)) ≡ t = omega arith in
-        let z = ap (exposed firsts lasts from to) (sym u) ∙ none-at (λ m. exposed firsts lasts from to (from + 1 + m)) (to - (from + 1)) (t - (from + 1)) s (omega arith) in
+    inside : (t : ℕ) → exposed firsts lasts from to t ≡ false → (t < length firsts) × (from ≤ getD firsts t 0) × (t < length lasts) × (getD lasts t 0 ≤ to)
+    inside t z =
         let x = neither (leb (length firsts) t || leb (length lasts) t || ltb (getD firsts t 0) from) (ltb to (getD lasts t 0)) z in
         let y = neither (leb (length firsts) t || leb (length lasts) t) (ltb (getD firsts t 0) from) (x .0) in
         let w = neither (leb (length firsts) t) (leb (length lasts) t) (y .0) in
         (leb-false (length firsts) t (w .0), ltb-false (getD firsts t 0) from (y .1), leb-false (length lasts) t (w .1), ltb-false to (getD lasts t 0) (x .1))
 
-    part-outside : (k : ℕ) → k < B → (outside from to k && hasEdge blocks (enters edges from to) k) ≡ false
-    part-outside k b =
-        elim (decLe (suc k) from) [
-          | yes p ↦ rw (lt-ltb k from p) (no-entry from to k (λ t u v. let c = inside t u v in h .before t k (c .0) (omega arith) b))
-          | no p ↦ elim (decLe to k) [
-            | yes q ↦ rw (le-ltb k from (omega arith), le-leb to k q) (no-entry from to k (λ t u v. let c = inside t u v in h .behind t k (c .2) (omega arith) b))
-            | no q ↦ rw (le-ltb k from (omega arith), lt-leb to k (omega arith))
+    abbrev enters-from : ℕ → Bool
+    enters-from k = outside from to k && hasEdge blocks (enters edges from to) k
+
+    -- no place is exposed: no block before the part and none behind enters it
+    entered-once : anyExposed firsts lasts from to ≡ false → anyBelow enters-from B ≡ false
+    unfolding anyExposed
+    entered-once s =
+        any-none enters-from B (λ k b. elim (decLe (suc k) from) [
+          | yes y ↦ rw (lt-ltb k from y) (no-entry from to k (λ t u v. let c = inside t (not-exposed t u v) in h .before t k (c .0) (omega arith) b))
+          | no y ↦ elim (decLe to k) [
+            | yes z ↦ rw (le-ltb k from (omega arith), le-leb to k z) (no-entry from to k (λ t u v. let c = inside t (not-exposed t u v) in h .behind t k (c .2) (omega arith) b))
+            | no z ↦ rw (le-ltb k from (omega arith), lt-leb to k (omega arith))
           ]
+        ])
+      where
+        not-exposed : (t : ℕ) → from < t → t < to → exposed firsts lasts from to t ≡ false
+        not-exposed t a b =
+            let u : from + 1 + (t - (from + 1)) ≡ t = omega arith in
+            ap (exposed firsts lasts from to) (sym u) ∙ none-at (λ m. exposed firsts lasts from to (from + 1 + m)) (to - (from + 1)) (t - (from + 1)) s (omega arith)
+
+    module _ (small : from ≤ 65535) (long : (to ≤ length firsts) × (to ≤ length lasts)) where
+      -- a block outside with an edge to an inside place other than the first
+      outside-enters : (t k : ℕ) → from < t → t < to → (k < B) × (hasEdge blocks (goesTo edges t) k ≡ true) → outside from to k ≡ true → anyBelow enters-from B ≡ true
+      outside-enters t k a b q o = any-found enters-from B k (q .0) (rw (o, entry from to t k a b (q .1)))
+
+      exposed-enters : (t : ℕ) → from < t → t < to → exposed firsts lasts from to t ≡ true → anyBelow enters-from B ≡ true
+      exposed-enters t a b e = go (ltb (getD firsts t 0) from) (ltb to (getD lasts t 0)) refl refl (rw (lt-leb (length firsts) t (omega (arith, long .0)), lt-leb (length lasts) t (omega (arith, long .1))) at e)
+        where
+          behind : (k : ℕ) → getD lasts t 0 ≡ k → to < k → anyBelow enters-from B ≡ true
+          behind zero q lt = absurd (omega arith)
+          behind (suc k) q lt = outside-enters t k a b (h .last-is t k (omega (arith, long .1)) q) (rw (le-leb to k (omega arith)) (or-true (ltb k from)))
+
+          go : (x y : Bool) → ltb (getD firsts t 0) from ≡ x → ltb to (getD lasts t 0) ≡ y → (x || y) ≡ true → anyBelow enters-from B ≡ true
+          go true y p q z =
+              let lt = ltb-true (getD firsts t 0) from p in
+              outside-enters t (getD firsts t 0) a b (h .first-is t (omega (arith, long .0)) (omega arith)) (rw p)
+          go false true p q z = behind (getD lasts t 0) refl (ltb-true to (getD lasts t 0) q)
+          go false false p q z = false-true z
+
+      pub exposed-is : anyExposed firsts lasts from to ≡ anyBelow enters-from B
+      unfolding anyExposed
+      exposed-is = go (anyExposed firsts lasts from to) refl
+        where
+          go : (b : Bool) → anyExposed firsts lasts from to ≡ b → b ≡ anyBelow enters-from B
+          go true e = sym (any-gives (λ m. exposed firsts lasts from to (from + 1 + m)) (to - (from + 1)) (anyBelow enters-from B) e (λ m lt z. exposed-enters (from + 1 + m) (omega arith) (omega arith) z))
+          go false e = sym (entered-once e)
+
+    -- Of place i's sources none stands before the start of its search and none behind the end.
+    abbrev jumps-from : ℕ → ℕ → Bool
+    jumps-from i k = outside from to k && hasEdge blocks (jumpTo edges i) k
+
+    pub jumps-between : (i low high : ℕ) → low ≡ searchStart firsts i → high ≡ searchEnd lasts i B → anyBelow (λ m. jumps-from i (low + m)) (high - low) ≡ outsideJump blocks edges B from to i
+    unfolding outsideJump
+    jumps-between i low high e f =
+        let b = end-is (ltb i (length lasts)) (ltb (getD lasts i 0) B) refl refl f in
+        any-part (jumps-from i) low high B (b .0) (λ k lt c. no-jump-outside i k (start-none k lt c)) (λ k le c. no-jump-outside i k (b .1 k le c))
+      where
+        no-jump-outside : (i k : ℕ) → hasEdge blocks (goesTo edges i) k ≡ false → jumps-from i k ≡ false
+        no-jump-outside i k z = rw (no-jump i k z) (and-false (outside from to k))
+
+        start-none : (k : ℕ) → k < low → k < B → hasEdge blocks (goesTo edges i) k ≡ false
+        start-none k lt c = elim (decLe (suc i) (length firsts)) [
+          | yes y ↦ h .before i k y (omega (arith, e)) c
+          | no y ↦ absurd (omega (arith, e, List·getD-eq-default {A = ℕ} firsts 0 {n = i} (omega arith), lt))
         ]
 
-    pub entered-once : singleEntry blocks edges B from to ≡ true
-    unfolding singleEntry
-    entered-once = ap not (any-none (λ k. outside from to k && hasEdge blocks (enters edges from to) k) B part-outside)
+        end-is : (x y : Bool) → ltb i (length lasts) ≡ x → ltb (getD lasts i 0) B ≡ y → high ≡ pick (x && y) (getD lasts i 0) B
+            → (high ≤ B) × ((k : ℕ) → high ≤ k → k < B → hasEdge blocks (goesTo edges i) k ≡ false)
+        end-is true true u v s = (omega (arith, ltb-true (getD lasts i 0) B v, s), λ k le c. h .behind i k (ltb-true i (length lasts) u) (omega (arith, s, le)) c)
+        end-is true false u v s = (omega arith, λ k le c. absurd (omega arith))
+        end-is false y u v s = (omega arith, λ k le c. absurd (omega arith))

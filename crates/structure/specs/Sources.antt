@@ -1,7 +1,7 @@
 -- Which blocks have edges to a place, in lists with an entry a place, so that no search reads the blocks before or behind:
 -- the first of these blocks, one more than the last, and one more than the last that closes a loop to it.
 use mathlib.Core.Path.{_≡_}
-use mathlib.Core.Bool.{Bool, false, _&&_, _||_}
+use mathlib.Core.Bool.{Bool, true, false, _&&_, _||_}
 use mathlib.Core.List.{List}
 use Prim.Native.Nat.{ℕ, zero, suc, _+_, _-_, _≤_, _<_}
 use lib.Dec.{ltb, leb}
@@ -31,7 +31,11 @@ arrives edges loops t e = pick loops (trueEdgeTo edges t e) (goesTo edges t e)
 abbrev pub isSource : List ℕ → List ℕ → Bool → ℕ → ℕ → Bool
 isSource blocks edges loops t k = pick loops (closesLoop blocks edges t k) (hasEdge blocks (goesTo edges t) k)
 
--- where the search for the last block before `to` that closes a loop to i begins: at the entry of i, if there is one before
+-- where the sources of place i begin: at its entry, or at 0 for a place beyond the list
+abbrev pub searchStart : List ℕ → ℕ → ℕ
+searchStart firsts i = getD firsts i 0
+
+-- where those before `to` end: at its entry, if there is one before
 abbrev pub searchEnd : List ℕ → ℕ → ℕ → ℕ
 searchEnd ends i to = pick (ltb i (length ends) && ltb (getD ends i 0) to) (getD ends i 0) to
 
@@ -48,7 +52,10 @@ anyExposed firsts lasts from to = anyBelow (λ m. exposed firsts lasts from to (
 pub record Ends (blocks edges : List ℕ) (from to : ℕ) (ends : List ℕ) : Type 0 where
   pub none : (i k : ℕ) → i < length ends → getD ends i 0 ≤ k → from ≤ k → k < to → closesLoop blocks edges i k ≡ false
 
--- Of the first n blocks, none before the first entry of place t and none from the last one on has an edge to it.
+-- Of the first n blocks, none before the first entry of place t and none from the last one on has an edge to it; the entries tell of
+-- blocks that have one, unless there is none: the first is 65535 then, the last 0.
 pub record Sources (blocks edges : List ℕ) (n : ℕ) (firsts lasts : List ℕ) : Type 0 where
   pub before : (t k : ℕ) → t < length firsts → k < getD firsts t 0 → k < n → hasEdge blocks (goesTo edges t) k ≡ false
   pub behind : (t k : ℕ) → t < length lasts → getD lasts t 0 ≤ k → k < n → hasEdge blocks (goesTo edges t) k ≡ false
+  pub first-is : (t : ℕ) → t < length firsts → getD firsts t 0 < 65535 → (getD firsts t 0 < n) × (hasEdge blocks (goesTo edges t) (getD firsts t 0) ≡ true)
+  pub last-is : (t k : ℕ) → t < length lasts → getD lasts t 0 ≡ suc k → (k < n) × (hasEdge blocks (goesTo edges t) k ≡ true)

@@ -57,6 +57,8 @@ fn emit_range(
                 n = emit_loop(
                     blocks,
                     edges,
+                    firsts,
+                    lasts,
                     shown,
                     count,
                     Place(i),
@@ -92,6 +94,8 @@ fn emit_range(
                 n = emit_plain(
                     blocks,
                     edges,
+                    firsts,
+                    lasts,
                     shown,
                     count,
                     from,
@@ -133,7 +137,20 @@ fn emit_region(
     requires { ⌜ Room at (codes (regionLines (now blocks) (now edges) (now shown) count (rangeLines (now blocks) (now edges) (now shown) (now starts) (now targets) count) (from .0) (i .0) (t .0) (to .0) indent)) ⌝ }
     ensures { λ r. ⌜ Stored (now (out .entry)) at (codes (regionLines (now (blocks .entry)) (now (edges .entry)) (now (shown .entry)) count (rangeLines (now (blocks .entry)) (now (edges .entry)) (now (shown .entry)) (now (starts .entry)) (now (targets .entry)) count) (from .0) (i .0) (t .0) (to .0) indent)) r (now (out .exit)) ⌝ }
 {
-    let n = emit_head(blocks, edges, shown, count, from, i, to, indent, out, at);
+    let n = emit_head(
+        blocks,
+        edges,
+        firsts,
+        lasts,
+        shown,
+        count,
+        from,
+        i,
+        to,
+        indent,
+        out,
+        at,
+    );
     let m = emit_range(
         blocks,
         edges,

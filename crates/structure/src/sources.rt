@@ -13,7 +13,7 @@ ghost use mathlib.Core.Path.{_≡_};
 ghost use Prim.Native.Nat.{_-_};
 ghost use Rattle.lists.specs.Choice.{pick};
 ghost use Rattle.structure.specs.Graph.{hasEdge};
-ghost use Rattle.structure.specs.Sources.{Entries, arrives, isSource, firstSource, lastSource, searchEnd, exposed, anyExposed};
+ghost use Rattle.structure.specs.Sources.{Entries, arrives, isSource, firstSource, lastSource, searchStart, searchEnd, exposed, anyExposed};
 
 // The target of an edge gets an entry; if only loops count, that of a True edge.
 fn note_edge(edges: &[u16], loops: bool, e: u32, entry: u16, out: &mut [u16])
@@ -66,6 +66,12 @@ pub fn first_sources(blocks: &[u16], edges: &[u16], count: u16, out: &mut [u16])
         k -= 1;
         note_block(blocks, edges, false, Place(k), k, out);
     }
+}
+
+pub fn search_start(firsts: &[u16], i: Place) -> u16
+    ensures { λ r. ⌜ r ≡ searchStart (now (firsts .entry)) (i .0) ⌝ }
+{
+    u16_in(firsts, i.0 as usize)
 }
 
 pub fn search_end(ends: &[u16], i: Place, to: Place) -> u16

@@ -6,18 +6,22 @@ use crate::edges::has_leaving_edge;
 use crate::graph::has_condition;
 use crate::graph::is_outside;
 use crate::sources::has_exposed;
+use crate::sources::search_end;
+use crate::sources::search_start;
 use record::blocks::Place;
 ghost use mathlib.Core.Bool.{_&&_};
 ghost use mathlib.Core.Path.{_≡_};
-ghost use Rattle.structure.specs.Graph.{hasEdge, passes, closesLoop, outside, outsideEdge, singleEntry, outsideJump, escapes};
+ghost use Prim.Native.Nat.{_+_, _-_};
+ghost use Rattle.lists.specs.Choice.{anyBelow};
+ghost use Rattle.structure.specs.Graph.{hasEdge, passes, closesLoop, outside, singleEntry, outsideJump, escapes};
 ghost use Rattle.structure.specs.Sources.{Sources};
 
 // Block j has a True edge to place i, and its last instruction has a condition.
 pub fn closes_loop(blocks: &[u16], edges: &[u16], i: Place, j: Place) -> bool
     ensures { λ r. ⌜ r ≡ closesLoop (now (blocks .entry)) (now (edges .entry)) (i .0) (j .0) ⌝ }
 {
-    if has_edge(blocks, edges, Wanted::TrueTo(i), j) {
-        return has_condition(blocks, j);
+    if has_condition(blocks, j) {
+        return has_edge(blocks, edges, Wanted::TrueTo(i), j);
     }
     false
 }
@@ -39,19 +43,20 @@ fn comes_from(
     false
 }
 
-// A block outside the places from `from` up to `to` has a wanted edge.
+// Of the blocks from `low` up to `high`, one outside the places from `from` up to `to` has a wanted edge.
 fn has_outside_edge(
     blocks: &[u16],
     edges: &[u16],
-    count: u16,
+    low: u16,
+    high: u16,
     from: Place,
     to: Place,
     wanted: Wanted,
 ) -> bool
-    ensures { λ r. ⌜ r ≡ outsideEdge (now (blocks .entry)) count (from .0) (to .0) (passes (now (edges .entry)) wanted) ⌝ }
+    ensures { λ r. ⌜ r ≡ anyBelow (λ m. outside (from .0) (to .0) (low + m) && hasEdge (now (blocks .entry)) (passes (now (edges .entry)) wanted) (low + m)) (high - low) ⌝ }
 {
-    let mut k: u16 = 0;
-    while k < count {
+    let mut k = low;
+    while k < high {
         if comes_from(blocks, edges, from, to, wanted, Place(k)) {
             return true;
         }
@@ -60,8 +65,8 @@ fn has_outside_edge(
     false
 }
 
-// No block outside the places from `from` up to `to` enters them other than at the first. No block is read where the lists of
-// sources tell that no edge comes from outside.
+// No block outside the places from `from` up to `to` enters them other than at the first. The lists of sources tell; blocks are read
+// for places beyond the lists.
 pub fn single_entry(
     blocks: &[u16],
     edges: &[u16],
@@ -74,24 +79,30 @@ pub fn single_entry(
     requires { ⌜ Sources (now blocks) (now edges) count (now firsts) (now lasts) ⌝ }
     ensures { λ r. ⌜ r ≡ singleEntry (now (blocks .entry)) (now (edges .entry)) count (from .0) (to .0) ⌝ }
 {
-    if has_exposed(firsts, lasts, from, to) {
-        return !has_outside_edge(blocks, edges, count, from, to, Wanted::Between(from, to));
+    let end = to.0 as usize;
+    if (end <= firsts.len()) & (end <= lasts.len()) {
+        return !has_exposed(firsts, lasts, from, to);
     }
-    true
+    !has_outside_edge(blocks, edges, 0, count, from, to, Wanted::Between(from, to))
 }
 
-// A block outside the places from `from` up to `to` jumps to place i.
+// A block outside the places from `from` up to `to` jumps to place i: only blocks between the first and the last source are read.
 pub fn has_outside_jump_to(
     blocks: &[u16],
     edges: &[u16],
+    firsts: &[u16],
+    lasts: &[u16],
     count: u16,
     from: Place,
     to: Place,
     i: Place,
 ) -> bool
+    requires { ⌜ Sources (now blocks) (now edges) count (now firsts) (now lasts) ⌝ }
     ensures { λ r. ⌜ r ≡ outsideJump (now (blocks .entry)) (now (edges .entry)) count (from .0) (to .0) (i .0) ⌝ }
 {
-    has_outside_edge(blocks, edges, count, from, to, Wanted::JumpTo(i))
+    let low = search_start(firsts, i);
+    let high = search_end(lasts, i, Place(count));
+    has_outside_edge(blocks, edges, low, high, from, to, Wanted::JumpTo(i))
 }
 
 // A block from `from` up to `to` has an edge to an address below the start of `from`, that of `join` excepted.

@@ -43,7 +43,7 @@ emit-range-requires c κs =
     let small : (k : ℕ) → getD (a .blocks .now) k 0 < 65536 = λ k. omega (arith, c .before .before .before .before .before .before .before .before .before .before .before .before .before .before .before .before .before .before .shared-slice-known .given k) in
     let few = lines-fit (a .blocks .now) (a .edges .now) (a .shown .now) (a .starts .now) (a .targets .now) (a .count) (a .from) (a .to) (a .indent) small (omega (arith, s .fits .to)) in
     let ends = ends-are (a .blocks .now) (a .edges .now) (a .from) (a .to) _ _ (c .before .before .before .before .before .before .before .before .before .before .before .last-sources .ensures) in
-    let sources = sources-are (a .blocks .now) (a .edges .now) (a .count) _ _ _ _ (c .before .before .before .before .before .before .before .first-sources .ensures) (c .before .before .before .last-sources2 .ensures) in
+    let sources = sources-are (a .blocks .now) (a .edges .now) (a .count) 256 _ _ (c .before .before .before .before .before .before .before .first-sources .ensures) (c .before .before .before .last-sources2 .ensures) in
     ((omega arith, omega (arith, s .fits .to, s .fits .indent)), (ends, (sources, record { fits = simp length-map (omega (arith, few)) })))
 
 same-length : tie.Need-same-length

@@ -1,28 +1,40 @@
 -- Whether a part of the order is entered only at its first place: `single_entry` meets its contract.
--- By whether a place of it may have an edge from elsewhere.
+-- By whether its places have entries in the lists of sources.
 use mathlib.Core.Path.{sym, ap, _∙_}
-use mathlib.Core.Bool.{not}
-use Rattle.structure.specs.Graph.{singleEntry}
-use Rattle.structure.proofs.Sourced.{entered-once}
+use mathlib.Core.Bool.{not, _&&_}
+use lib.Dec.{leb}
+use lib.ListN.{length}
+use native.Mathlib.Omega.{arith}
+use borrow.Author.Tests.{leb-true}
+use Rattle.structure.specs.Graph.{outside, enters, hasEdge, singleEntry}
+use Rattle.structure.specs.Within.{both-true}
+use Rattle.structure.proofs.Sourced.{exposed-is, any-from-zero}
 use borrow.Author.Needs.{needs}
 use Rattle.structure.proofs.tests.single_entry.Statement.{statement}
 use Rattle.structure.proofs.tests.single_entry.Tie as tie
 
+cast-end : tie.Need-cast-end
+cast-end c = search needs
+
 has-exposed-requires : tie.Need-has-exposed-requires
 has-exposed-requires c κs = search needs
+
+returns : tie.Need-returns
+unfolding singleEntry
+returns c =
+    let a = (c .before .before .before .before .before .before .before .args) in
+    let l = both-true (leb (a .to .0) (length (a .firsts .now))) (leb (a .to .0) (length (a .lasts .now))) ((c .before .if1) .taken) in
+    ap not ((c .has-exposed) .ensures ∙ exposed-is (a .blocks .now) (a .edges .now) (a .count) (a .firsts .now) (a .lasts .now) (c .before .before .before .before .before .before .before .pre) (a .from .0) (a .to .0) (search needs) (leb-true _ _ (l .0), leb-true _ _ (l .1)))
 
 has-outside-edge-requires : tie.Need-has-outside-edge-requires
 has-outside-edge-requires c κs = search needs
 
-returns : tie.Need-returns
-unfolding singleEntry
-returns c = ap not ((c .has-outside-edge) .ensures)
-
 returns-2 : tie.Need-returns-2
+unfolding singleEntry
 returns-2 c =
-    let a = (c .before .before .before .before .before .before .args) in
-    sym (entered-once (a .blocks .now) (a .edges .now) (a .count) (a .firsts .now) (a .lasts .now) (c .before .before .before .before .before .before .pre) (a .from .0) (a .to .0) (sym ((c .before .has-exposed) .ensures) ∙ (c .if1) .left))
+    let a = (c .before .before .before .before .before .before .before .args) in
+    ap not ((c .has-outside-edge) .ensures ∙ any-from-zero (λ k. outside (a .from .0) (a .to .0) k && hasEdge (a .blocks .now) (enters (a .edges .now) (a .from .0) (a .to .0)) k) (a .count))
 
 pub single-entry-spec : {M : Type 1} → statement M
 single-entry-spec =
-    tie.close (tie.spec has-exposed-requires has-outside-edge-requires returns returns-2)
+    tie.close (tie.spec cast-end has-exposed-requires returns has-outside-edge-requires returns-2)
