@@ -20,7 +20,7 @@ use Rattle.record.specs.declared.header.Header.{Header}
 use Rattle.record.specs.Body.{operandCount, operandKind, operandRegister}
 use Rattle.structure.specs.Plan.{What, Line}
 use Rattle.structure.specs.Plan.What.{label-line, do-line, open-line, if-goto, while-line, close-line, goto-line, tail-call, insn-line}
-use Rattle.line.specs.Arguments.{registerArguments, argumentTokens, writtenAfter}
+use Rattle.expressions.specs.Arguments.{registerArguments, argumentTokens, writtenAfter}
 use Rattle.line.specs.ArgumentLaw.{writes, wrote, isCall, hasCall, sinceCall, Prefix, shownAs, shown, maskBehind, ArgumentLaw}
 use Rattle.line.specs.Print.{lineTokens, maskAfter, printed}
 

@@ -27,7 +27,7 @@ use Rattle.record.specs.Atlas.{textStart}
 use Rattle.operand.specs.Names.{entryFrom, entryAt, entryToken, nameOr, inSpan}
 use Rattle.operand.specs.Memory.{slotBase, slotNumber, isSlot, slotToken, displacement, addressExpr, memExpr, memTokens, number}
 use Rattle.operand.specs.Operand.{signedRead, immediateNumber, immediate, opTokens}
-use Rattle.line.specs.Condition.{flagWriter, afterWriter, conditionTokens}
+use Rattle.expressions.specs.Condition.{flagWriter, afterWriter, conditionTokens}
 use Rattle.record.specs.Blocks.{firstInstruction, firstEdge}
 use Rattle.structure.specs.Graph.{closesLoop, hasEdge, endingIn, singleEntry, escapes as leaves, outsideJump}
 use Rattle.structure.specs.Shape.{shapeAt, lastLoop, lastFrom, regionAt, opensRegion}
@@ -35,7 +35,7 @@ use Rattle.structure.specs.Plan.{rangeLines, rangeGo, plainLines, shownLines, b
 use Rattle.flow.specs.Silent.{isQuiet, isPrologueNoise, endingOf}
 use Rattle.flow.specs.Rows.{rowsFrom, blockRow, edgeRow, shownRow, blockEnding, blockBranch, placeFrom, placeOf, blockRows, edgeRows, shownRows}
 use Rattle.flow.specs.Planned.{recordPlan}
-use Rattle.line.specs.Arguments.{writtenAfter}
+use Rattle.expressions.specs.Arguments.{writtenAfter}
 use Rattle.line.specs.Forms.{Piece, rows, rowOf, insnForm, plainForm, returnsValue}
 use Rattle.line.specs.Forms.Piece.{op, condition}
 use Rattle.line.specs.Print.{pieceTokens, piecesTokens, lineTokens, printed}
