@@ -11,11 +11,11 @@ use borrow.Author.Tests.{le-leb, lt-leb, le-ltb, eq-eqb, ne-eqb}
 use lib.Dec.{T, eqb, ltb, eqb→eq}
 use lib.ListN.{length, getD}
 use Rattle.lists.specs.Choice.{pick, allBelow}
+use Rattle.lists.specs.Below.{below-at}
 use Rattle.tokens.specs.Token.{Token}
 use Rattle.x86.specs.Registers.{fullRegister, qword}
 use Rattle.x86.specs.Conventions.{microsoft, systemV, argumentRegisters, argumentCount, written, anyWritten, upToLast, withWritten}
-use Rattle.x86.proofs.Written.{now-written, still-written}
-use Rattle.x86.proofs.Below.{below-at}
+use Rattle.x86.specs.Written.{now-written, still-written}
 use Rattle.record.specs.declared.header.Header.{Header}
 use Rattle.record.specs.Body.{operandCount, operandKind, operandRegister}
 use Rattle.structure.specs.Plan.{What, Line}

@@ -8,10 +8,10 @@ use borrow.Author.Tests.{le-leb, lt-ltb, eq-eqb, ne-eqb}
 use lib.Bits.{bitOr, or-shr, or-mod, or-zero-r}
 use lib.Dec.{T, eqb, eqb→eq}
 use Rattle.lists.specs.Choice.{allBelow}
+use Rattle.lists.specs.Below.{below-at}
 use Rattle.x86.specs.Conventions.{written, withWritten}
 use Rattle.x86.specs.Registers.{qword}
 use Rattle.x86.specs.Table.{bit}
-use Rattle.x86.proofs.Below.{below-at}
 
 pub shifted : (i : ℕ) → i < 16 → 1 * 2 ^ i % 65536 ≡ 2 ^ i
 shifted i h = eqb→eq _ _ (below-at (λ k. eqb (1 * 2 ^ k % 65536) (2 ^ k)) 16 tt i h)
