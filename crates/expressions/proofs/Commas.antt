@@ -14,7 +14,8 @@ use Rattle.lists.specs.Choice.{pick}
 use Rattle.tokens.specs.Token.{Token}
 use Rattle.tokens.specs.Words.{words, wordToken}
 use Rattle.tokens.specs.Sheet.{Sheet, push, pushes}
-use Rattle.x86.specs.Conventions.{argumentRegisters, argumentRegister, argumentCount, anyWritten, upToLast}
+use Rattle.x86.specs.Conventions.{argumentRegisters, argumentRegister, argumentCount}
+use Rattle.x86.specs.Written.{up-to}
 use Rattle.record.specs.declared.header.Header.{Header}
 use Rattle.record.specs.Layout.{bodiesOf}
 use Rattle.record.specs.Body.{bodyAt}
@@ -34,15 +35,6 @@ no-comma S S₁ b ts e q = rw e q
 -- a register as it was read
 pub as-read : (S S₁ : Sheet) (r q : ℕ) → r ≡ q → S₁ ≡ pushes S (registerToken r ∷ []) → S₁ ≡ pushes S (registerToken q ∷ [])
 as-read S S₁ r q e p = rw (← e) p
-
--- registers are counted up to the last one written, so there are as many
-up-to : (mask : ℕ) (rs : List ℕ) → upToLast mask rs ≤ length rs
-up-to mask [] = omega arith
-up-to mask (r ∷ rs) = go (anyWritten mask (r ∷ rs)) (up-to mask rs)
-  where
-    go : (b : Bool) → upToLast mask rs ≤ length rs → pick b (suc (upToLast mask rs)) 0 ≤ suc (length rs)
-    go true h = omega arith
-    go false h = omega arith
 
 -- the registers from k on, of n
 abbrev pub registersLeft : ℕ → ℕ → ℕ → List Token

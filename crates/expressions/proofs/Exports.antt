@@ -6,6 +6,7 @@ use mathlib.Core.List.{List}
 use Prim.Native.Nat.{ℕ, _+_, _-_, _*_, _≤_, _<_}
 use borrow.Author.Tests.{le-leb, lt-leb, lt-ltb, le-ltb, eqb-true}
 use lib.Dec.{eqb}
+use Rattle.lists.specs.Every.{both-yes}
 use Rattle.tokens.specs.declared.pen.Pen.{Pen}
 use Rattle.tokens.specs.Token.{Token}
 use Rattle.tokens.specs.Sheet.{Sheet, sheet, ahead, firstPen, pushes}
@@ -35,14 +36,10 @@ module _ (S S′ : Sheet) (h : Header) (s : List ℕ) (first i what : ℕ) where
 pub from-start : (t e k : List ℕ) (p : Pen) (ts : List Token) (S : Sheet) → p ≡ firstPen → S ≡ pushes (sheet t e k p) ts → S ≡ pushes (sheet t e k firstPen) ts
 from-start t e k p ts S a x = x ∙ ap (λ (q : Pen). pushes (sheet t e k q) ts) a
 
-left : (a b : Bool) → (a && b) ≡ true → a ≡ true
-left true b h = refl
-left false b h = h
-
 module _ (h : Header) (s : List ℕ) (i : ℕ) (a : h ≡ headerOf s) (b : Bool) (q : b ≡ isListed s i) where
   pub listed-rising : b ≡ true → Rising h s
   unfolding isListed
-  listed-rising e = rw a (accepted-rising s 0 (headerOf s .blocks) (eqb-true _ _ (left _ _ (sym q ∙ e))))
+  listed-rising e = rw a (accepted-rising s 0 (headerOf s .blocks) (eqb-true _ _ (both-yes _ _ (sym q ∙ e) .0)))
 
   module _ (t e k : List ℕ) (first what : ℕ) where
     pub written : (t′ e′ k′ : List ℕ) (p : Pen) (n : ℕ) → b ≡ true → sheet t′ e′ k′ p ≡ pushes (sheet t e k firstPen) (chosenTokens h s first i what)

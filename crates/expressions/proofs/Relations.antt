@@ -13,7 +13,7 @@ use Rattle.lists.specs.Entries.{tab, entry}
 use Rattle.tokens.specs.Token.{Token, token, punct, keyword}
 use Rattle.tokens.specs.Words.{words, wordToken}
 use Rattle.tokens.specs.Sheet.{Sheet, push, pushes}
-use Rattle.tokens.specs.SheetLaws.{pushes-append}
+use Rattle.tokens.specs.SheetLaws.{chain}
 use Rattle.x86.specs.Conditions.{operatorText, relationAfterCmp, relationAfterTest, relationAfterOther}
 use Rattle.record.specs.declared.header.Header.{Header}
 use Rattle.record.specs.Layout.{bodiesOf}
@@ -23,8 +23,8 @@ use Rattle.operand.specs.Memory.{number}
 use Rattle.operand.specs.Operand.{opTokens}
 use Rattle.operand.specs.Alike.{alike}
 use Rattle.expressions.specs.Condition.{operator, flagsWord, relationOr, unsignedIf, flagWriter, afterCmp, tested, afterTest, afterOther, afterWriter, conditionTokens}
-use Rattle.expressions.specs.declared.condition.Writer.{Writer}
-use Rattle.expressions.specs.declared.condition.Writer.the-variants.{At, Nothing}
+use Rattle.record.specs.declared.search.Found.{Found}
+use Rattle.record.specs.declared.search.Found.the-variants.{At, Nothing}
 
 -- the words of the operators are the relations' texts, in order
 operators : tab (λ r. wordToken (10 + r)) 0 6 ≡ tab operator 0 6
@@ -49,9 +49,6 @@ word-past v w h k =
 pub one : (S S₁ : Sheet) (t u : Token) → t ≡ u → S₁ ≡ push S t → S₁ ≡ pushes S (u ∷ [])
 unfolding pushes
 one S S₁ t u e p = p ∙ ap (push S) e
-
-pub chain : (S S₁ S₂ : Sheet) (a b : List Token) → S₁ ≡ pushes S a → S₂ ≡ pushes S₁ b → S₂ ≡ pushes S (a ++ b)
-chain S S₁ S₂ a b p q = q ∙ (ap (λ (s : Sheet). pushes s b) p ∙ sym (pushes-append S a b))
 
 -- an operator, and what stands behind it
 pub then : (S S₁ S₂ : Sheet) (r : ℕ) (b : List Token) → r < 6 → S₁ ≡ push S (wordToken (10 + r)) → S₂ ≡ pushes S₁ b → S₂ ≡ pushes S (operator r ∷ b)
@@ -118,8 +115,8 @@ module _ (h : Header) (s b : List ℕ) (cc m : ℕ) (e : m ≡ mnemonicOf b) (S 
   by-other t u p = rw (← e, ne-eqb m 38 t, ne-eqb m 39 u) p
 
 -- whether there was one
-module _ (h : Header) (s bodies : List ℕ) (first i cc : ℕ) (w : Writer) (e : bodies ≡ bodiesOf h s) (f : w ≡ flagWriter bodies first (i - first)) (S S₁ : Sheet) where
-  found : (v : Writer) → w ≡ v → flagWriter (bodiesOf h s) first (i - first) ≡ v
+module _ (h : Header) (s bodies : List ℕ) (first i cc : ℕ) (w : Found) (e : bodies ≡ bodiesOf h s) (f : w ≡ flagWriter bodies first (i - first)) (S S₁ : Sheet) where
+  found : (v : Found) → w ≡ v → flagWriter (bodiesOf h s) first (i - first) ≡ v
   found v t = sym (ap (λ (l : List ℕ). flagWriter l first (i - first)) e) ∙ sym f ∙ t
 
   pub at-writer : (p : ℕ) (b : List ℕ) → w ≡ At p → b ≡ bodyAt bodies p → S₁ ≡ pushes S (afterWriter h s b cc) → S₁ ≡ pushes S (conditionTokens h s first i cc)

@@ -7,6 +7,7 @@ use native.Mathlib.Omega.{arith}
 use lib.Dec.{leb→le, eqb, ltb}
 use lib.IntN.{natAbs}
 use lib.ListN.{length, take, length-take}
+use Rattle.lists.specs.Every.{every-at}
 use Rattle.tokens.specs.Token.{Token, punct, keyword}
 use Rattle.x86.specs.Conditions.{Relation, none, relations, operatorText, relationAfterCmp, relationAfterTest, relationAfterOther, printsUnsigned}
 use Rattle.x86.specs.Conventions.{microsoft, systemV, argumentRegisters, argumentCount}
@@ -16,10 +17,10 @@ use Rattle.record.specs.Body.{mnemonicOf}
 use Rattle.operand.specs.Alike.{alike}
 use Rattle.operand.specs.Memory.{number}
 use Rattle.operand.specs.Operand.{opTokens}
-use Rattle.operand.specs.Bounds.{AllBytes, bytes-drop, pick-le, every-at, upTo, Within, nothing, more, one, both, either, wrapped, register-within, number-within, word-within, op-within}
+use Rattle.operand.specs.Bounds.{AllBytes, bytes-drop, pick-le, upTo, Within, nothing, more, one, both, either, wrapped, register-within, number-within, word-within, op-within}
 use Rattle.flow.specs.Silent.{push, call}
-use Rattle.expressions.specs.declared.condition.Writer.{Writer}
-use Rattle.expressions.specs.declared.condition.Writer.the-variants.{At, Nothing}
+use Rattle.record.specs.declared.search.Found.{Found}
+use Rattle.record.specs.declared.search.Found.the-variants.{At, Nothing}
 use Rattle.expressions.specs.Condition.{operator, relationOr, unsignedIf, flagWriter, bodyOf, afterCmp, tested, afterWriter, conditionAfter, conditionTokens}
 use Rattle.expressions.specs.Arguments.{commaIf, listed, registerArguments, isHeard, pushesBack, pushed, argumentTokens}
 
@@ -98,7 +99,7 @@ module _ (h : Header) (s : List ℕ) (ss : AllBytes s) (shift : natAbs (h .shift
   unfolding conditionTokens
   condition-within first i cc = go (flagWriter (bodiesOf h s) first (i - first))
     where
-      go : (w : Writer) → Within 40 1002 (conditionAfter h s w cc)
+      go : (w : Found) → Within 40 1002 (conditionAfter h s w cc)
       go (At p) = after-writer p cc
       go Nothing = more 40 1002 (word-within (75 + cc)) (omega arith) (omega arith)
 

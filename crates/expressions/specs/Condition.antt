@@ -15,8 +15,9 @@ use Rattle.operand.specs.Expr.{wrapIf}
 use Rattle.operand.specs.Memory.{number}
 use Rattle.operand.specs.Operand.{opTokens}
 use Rattle.operand.specs.Alike.{alike}
-use Rattle.expressions.specs.declared.condition.Writer.{Writer}
-use Rattle.expressions.specs.declared.condition.Writer.the-variants.{At, Nothing}
+use Rattle.record.specs.Search.{lastFrom}
+use Rattle.record.specs.declared.search.Found.{Found}
+use Rattle.record.specs.declared.search.Found.the-variants.{At, Nothing}
 
 -- an operator, by the relation that the flag rule proves
 abbrev pub operator : ℕ → Token
@@ -36,10 +37,8 @@ unsignedIf true ts = keyword "(unsigned)" ∷ ts
 unsignedIf false ts = ts
 
 -- of the n instructions from `first` on the last that writes flags; the part given begins at the bodies
-unfoldable pub flagWriter : List ℕ → ℕ → ℕ → Writer
-flagWriter bodies first zero = Nothing
-flagWriter bodies first (suc n) =
-    pick (writesFlags (mnemonicOf (bodyAt bodies (first + n)))) (At (first + n)) (flagWriter bodies first n)
+unfoldable pub flagWriter : List ℕ → ℕ → ℕ → Found
+flagWriter bodies first n = lastFrom (λ k. writesFlags (mnemonicOf (bodyAt bodies k))) first n
 
 module _ (h : Header) (s : List ℕ) where
   abbrev pub bodyOf : ℕ → List ℕ
@@ -66,7 +65,7 @@ module _ (h : Header) (s : List ℕ) where
   unfoldable pub afterWriter : List ℕ → ℕ → List Token
   afterWriter b cc = pick (eqb (mnemonicOf b) 38) (afterCmp b cc) (pick (eqb (mnemonicOf b) 39) (afterTest b cc) (afterOther b cc))
 
-  abbrev pub conditionAfter : Writer → ℕ → List Token
+  abbrev pub conditionAfter : Found → ℕ → List Token
   conditionAfter (At p) cc = afterWriter (bodyOf p) cc
   conditionAfter Nothing cc = flagsWord cc ∷ []
 

@@ -6,6 +6,7 @@ use record::body::body_at;
 use record::body::mnemonic;
 use record::header::Header;
 use record::layout::bodies_at;
+use record::search::Found;
 use tokens::pen::Pen;
 use tokens::push::push_num;
 use tokens::push::push_word;
@@ -41,14 +42,8 @@ pub fn body_of(rec: &[u8], h: Header, i: u16) -> &[u8]
     body_at(from(rec, bodies_at(h)), i)
 }
 
-// The flag writer that a search found.
-pub enum Writer {
-    At(u16),
-    Nothing,
-}
-
 // The last instruction before i, from `first` on, that writes flags.
-pub fn flag_writer(isa: &[u8], bodies: &[u8], first: u16, i: u16) -> Writer
+pub fn flag_writer(isa: &[u8], bodies: &[u8], first: u16, i: u16) -> Found
     requires { ⌜ now isa ≡ isaBytes ⌝ }
     ensures { λ r. ⌜ r ≡ flagWriter (now (bodies .entry)) first (i - first) ⌝ }
 {
@@ -56,11 +51,11 @@ pub fn flag_writer(isa: &[u8], bodies: &[u8], first: u16, i: u16) -> Writer
     while first < k {
         let j = k - 1;
         if writes_flags(isa, mnemonic(body_at(bodies, j))) {
-            return Writer::At(j);
+            return Found::At(j);
         }
         k = j;
     }
-    Writer::Nothing
+    Found::Nothing
 }
 
 // `__flags_` and the condition's name; past the last word an empty text.
@@ -314,7 +309,7 @@ pub fn condition(
 {
     let bodies = from(rec, bodies_at(h));
     match flag_writer(isa, bodies, first, i) {
-        Writer::At(p) => after_writer(
+        Found::At(p) => after_writer(
             text,
             ends,
             kinds,
@@ -326,6 +321,6 @@ pub fn condition(
             body_at(bodies, p),
             cc,
         ),
-        Writer::Nothing => push_flags(text, ends, kinds, pen, words, isa, rec, h, cc),
+        Found::Nothing => push_flags(text, ends, kinds, pen, words, isa, rec, h, cc),
     }
 }

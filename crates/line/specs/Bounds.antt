@@ -9,17 +9,17 @@ use lib.Dec.{leb, leb→le, eqb}
 use lib.IntN.{natAbs}
 use lib.ListN.{length, length-take, length-map}
 use Rattle.lists.specs.Bytes.{u8At}
+use Rattle.lists.specs.Every.{every-at}
 use Rattle.tokens.specs.Token.{Token, token, plainText}
 use Rattle.tokens.specs.Sheet.{asText}
-use Rattle.tokens.specs.Listing.{flat, bytesOf, pushesOf}
+use Rattle.tokens.specs.Listing.{textOf, bytesOf, pushesOf}
 use Rattle.tokens.specs.Bounds.{prefixed-short}
 use Rattle.x86.specs.Mnemonics.{mnemonicNames, mnemonicName}
 use Rattle.x86.specs.Conditions.{negate}
 use Rattle.record.specs.declared.header.Header.{Header}
 use Rattle.record.specs.Layout.{startsAt, startsOf}
 use Rattle.record.specs.Body.{mnemonicOf, conditionOf, operandCount, operandAt, nameOf}
-use Rattle.operand.specs.Alike.{textOf}
-use Rattle.operand.specs.Bounds.{AllBytes, bytes-drop, u64-small, pick-le, every-at, upTo, Within, nothing, more, one, both, either, number-within, name-within, mem-within}
+use Rattle.operand.specs.Bounds.{AllBytes, bytes-drop, u64-small, pick-le, upTo, Within, nothing, more, one, both, either, number-within, name-within, mem-within}
 use Rattle.structure.specs.Plan.{Line}
 use Rattle.structure.specs.Placed.{Placed}
 use Rattle.expressions.specs.Condition.{bodyOf}
@@ -121,12 +121,6 @@ module _ (h : Header) (s : List ℕ) (ss : AllBytes s) (shift : natAbs (h .shift
       let form = formOf h s (l .what) (c .first) (l .at) in
       more 300000 300000 (pieces-within c p (rowOf form)) (row-short form) (row-short form)
 
--- the bytes of a line, by either name
-same-text : (ts : List Token) → flat ts ≡ textOf ts
-unfolding flat textOf
-same-text [] = refl
-same-text (t ∷ ts) = ap (λ (l : List ℕ). t .bytes ++ l) (same-text ts)
-
 -- a listing of at most 900 lines of instructions up to 500 has fewer than 2 ^ 32 bytes and tokens
 pub record Fits (ls : List (List Token)) : Type 0 where
   pub bytes : bytesOf ls ≤ 0xffff_ffff
@@ -140,8 +134,7 @@ module _ (h : Header) (s : List ℕ) (ss : AllBytes s) (shift : natAbs (h .shift
   printed-short range mask m (l ∷ ls) p =
       let w = line-within h s ss shift range mask l (p .1) in
       let r = printed-short range (maskAfter h s mask (l .what) (l .at)) m ls (p .2) in
-      let e : length (flat (lineTokens h s range mask l)) ≡ length (textOf (lineTokens h s range mask l)) = ap length (same-text (lineTokens h s range mask l)) in
-      (omega (arith, w .short, r .0, e), omega (arith, w .few, r .1))
+      (omega (arith, w .short, r .0), omega (arith, w .few, r .1))
 
 pub printed-fits : (h : Header) (s : List ℕ) → AllBytes s → natAbs (h .shift) ≤ 2 ^ 31 → (range mask m : ℕ) (ls : List Line)
     → Placed m 500 ls → length ls ≤ 900 → Fits (printed h s range mask ls)

@@ -12,9 +12,10 @@ use lib.ListN.{length, getD, set, replicate, length-set, length-replicate, getD-
 use lib.Seq.{getD-set-same, getD-set-other}
 use borrow.Author.Tests.{eq-eqb, eqb-true, ne-eqb, lt-ltb, le-ltb, le-leb, lt-leb, ltb-true, ltb-false, leb-false}
 use Rattle.lists.specs.Choice.{pick, anyBelow}
-use Rattle.lists.specs.Below.{any-found, any-more}
+use Rattle.lists.specs.Below.{any-found, any-more, none-at, none-below, any-gives, any-part}
+use Rattle.lists.specs.Every.{neither}
 use Rattle.structure.specs.Graph.{firstEdgeIn, edgesIn, edgeTo, edgeKind, goesTo, trueEdgeTo, hasEdge, hasCondition, closesLoop, outside, enters, jumpTo, singleEntry, outsideJump}
-use Rattle.structure.specs.Shape.{lastFrom}
+use Rattle.record.specs.Search.{lastFrom}
 use Rattle.structure.specs.Within.{false-true}
 use Rattle.structure.specs.Sources.{firstSource, lastSource, Entries, arrives, isSource, searchStart, searchEnd, exposed, anyExposed, Ends, Sources}
 use Rattle.structure.proofs.Found.{last-behind}
@@ -164,47 +165,6 @@ last-some p from (suc n) d k z e = go (p (from + n)) refl e (last-some p from n 
     go true t e ih = let s : k ≡ from + n = omega arith in (omega arith, rw s t)
     go false t e ih = (omega (arith, ih e .0), ih e .1)
 
-neither : (a b : Bool) → (a || b) ≡ false → (a ≡ false) × (b ≡ false)
-neither true b e = false-true (sym e)
-neither false b e = (refl, e)
-
-none-at : (p : ℕ → Bool) (n k : ℕ) → anyBelow p n ≡ false → k < n → p k ≡ false
-none-at p n k h lt = go (p k) refl
-  where
-    go : (b : Bool) → p k ≡ b → b ≡ false
-    go true e = false-true (sym h ∙ any-found p n k lt e)
-    go false e = refl
-
--- what follows from each test follows from one that passes
-any-gives : (p : ℕ → Bool) (n : ℕ) (g : Bool) → anyBelow p n ≡ true → ((k : ℕ) → k < n → p k ≡ true → g ≡ true) → g ≡ true
-any-gives p zero g e h = false-true e
-any-gives p (suc n) g e h = go (p n) refl (any-gives p n g) e
-  where
-    go : (b : Bool) → p n ≡ b → (anyBelow p n ≡ true → ((k : ℕ) → k < n → p k ≡ true → g ≡ true) → g ≡ true) → (anyBelow p n || b) ≡ true → g ≡ true
-    go true q ih e = h n (omega arith) q
-    go false q ih e = ih (sym (or-false (anyBelow p n)) ∙ e) (λ k lt. h k (omega arith))
-
-any-none : (p : ℕ → Bool) (n : ℕ) → ((k : ℕ) → k < n → p k ≡ false) → anyBelow p n ≡ false
-any-none p zero h = refl
-any-none p (suc n) h = rw (any-none p n (λ k lt. h k (omega arith)), h n (omega arith))
-
--- a part that leaves out no number that passes
-any-part : (q : ℕ → Bool) (low high n : ℕ) → high ≤ n → ((k : ℕ) → k < low → k < n → q k ≡ false) → ((k : ℕ) → high ≤ k → k < n → q k ≡ false) → anyBelow (λ m. q (low + m)) (high - low) ≡ anyBelow q n
-any-part q low high n le before behind = go (anyBelow (λ m. q (low + m)) (high - low)) refl
-  where
-    within : (k : ℕ) → anyBelow (λ m. q (low + m)) (high - low) ≡ false → low ≤ k → k < high → q k ≡ false
-    within k e a b = let u : low + (k - low) ≡ k = omega arith in ap q (sym u) ∙ none-at (λ m. q (low + m)) (high - low) (k - low) e (omega arith)
-
-    go : (b : Bool) → anyBelow (λ m. q (low + m)) (high - low) ≡ b → b ≡ anyBelow q n
-    go true e = sym (any-gives (λ m. q (low + m)) (high - low) (anyBelow q n) e (λ m lt z. any-found q n (low + m) (omega arith) z))
-    go false e = sym (any-none q n (λ k lt. elim (decLe low k) [
-      | no a ↦ before k (omega arith) lt
-      | yes a ↦ elim (decLe (suc k) high) [
-        | yes b ↦ within k e a b
-        | no b ↦ behind k (omega arith) lt
-      ]
-    ]))
-
 pub any-from-zero : (q : ℕ → Bool) (n : ℕ) → anyBelow (λ m. q (0 + m)) (n - 0) ≡ anyBelow q n
 any-from-zero q n = any-part q 0 n n (omega arith) (λ k lt b. absurd (omega arith)) (λ k le b. absurd (omega arith))
 
@@ -258,7 +218,7 @@ module _ (blocks edges : List ℕ) where
   -- a block without an edge to any place of a part does not enter it
   no-entry : (from to k : ℕ) → ((t : ℕ) → from < t → t < to → hasEdge blocks (goesTo edges t) k ≡ false) → hasEdge blocks (enters edges from to) k ≡ false
   unfolding hasEdge
-  no-entry from to k h = any-none (λ m. enters edges from to (firstEdgeIn blocks k + m)) (edgesIn blocks k) (λ m lt. one m lt (edgeTo edges (firstEdgeIn blocks k + m)) refl)
+  no-entry from to k h = none-below (λ m. enters edges from to (firstEdgeIn blocks k + m)) (edgesIn blocks k) (λ m lt. one m lt (edgeTo edges (firstEdgeIn blocks k + m)) refl)
     where
       one : (m : ℕ) → m < edgesIn blocks k → (t : ℕ) → edgeTo edges (firstEdgeIn blocks k + m) ≡ t → (ltb from t && ltb t to) ≡ false
       one m lt t e =
@@ -281,7 +241,7 @@ module _ (blocks edges : List ℕ) where
   no-jump : (i k : ℕ) → hasEdge blocks (goesTo edges i) k ≡ false → hasEdge blocks (jumpTo edges i) k ≡ false
   unfolding hasEdge
   no-jump i k h =
-      any-none (λ m. jumpTo edges i (firstEdgeIn blocks k + m)) (edgesIn blocks k)
+      none-below (λ m. jumpTo edges i (firstEdgeIn blocks k + m)) (edgesIn blocks k)
       (λ m lt. let e : goesTo edges i (firstEdgeIn blocks k + m) ≡ false = none-at (λ j. goesTo edges i (firstEdgeIn blocks k + j)) (edgesIn blocks k) m h lt in rw e)
 
   module _ (B : ℕ) (firsts lasts : List ℕ) (h : Sources blocks edges B firsts lasts) (from to : ℕ) where
@@ -300,7 +260,7 @@ module _ (blocks edges : List ℕ) where
     entered-once : anyExposed firsts lasts from to ≡ false → anyBelow enters-from B ≡ false
     unfolding anyExposed
     entered-once s =
-        any-none enters-from B (λ k b. elim (decLe (suc k) from) [
+        none-below enters-from B (λ k b. elim (decLe (suc k) from) [
           | yes y ↦ rw (lt-ltb k from y) (no-entry from to k (λ t u v. let c = inside t (not-exposed t u v) in h .before t k (c .0) (omega arith) b))
           | no y ↦ elim (decLe to k) [
             | yes z ↦ rw (le-ltb k from (omega arith), le-leb to k z) (no-entry from to k (λ t u v. let c = inside t (not-exposed t u v) in h .behind t k (c .2) (omega arith) b))

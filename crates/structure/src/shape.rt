@@ -6,19 +6,15 @@ use crate::tests::closes_loop;
 use crate::tests::region_escapes;
 use crate::tests::single_entry;
 use record::blocks::Place;
+use record::search::Found;
 ghost use mathlib.Core.Bool.{_&&_, not};
 ghost use mathlib.Core.Path.{_≡_};
 ghost use Prim.Native.Nat.{_+_, _-_, _<_};
 ghost use lib.Dec.{ltb};
 ghost use Rattle.structure.specs.Graph.{closesLoop, singleEntry, escapes};
 ghost use Rattle.structure.specs.Sources.{Ends, Sources};
-ghost use Rattle.structure.specs.Shape.{lastFrom, opensRegion, regionAt, shapeAt};
-
-// A place that a search found.
-pub enum Found {
-    At(u16),
-    Nothing,
-}
+ghost use Rattle.record.specs.Search.{lastFrom};
+ghost use Rattle.structure.specs.Shape.{opensRegion, regionAt, shapeAt};
 
 // A do-loop up to the block at a place, an if-region up to a place, or a plain block.
 pub enum Shape {

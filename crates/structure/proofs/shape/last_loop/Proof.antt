@@ -5,10 +5,10 @@ use mathlib.Core.Bool.{Bool}
 use Prim.Native.Nat.{_-_, _≤_}
 use Rattle.lists.specs.Choice.{pick}
 use Rattle.structure.specs.Graph.{closesLoop}
-use Rattle.structure.specs.Shape.{lastFrom}
-use Rattle.structure.specs.declared.shape.Found.the-variants.{At}
+use Rattle.record.specs.Search.{lastFrom}
+use Rattle.record.specs.declared.search.Found.the-variants.{At}
 use Rattle.structure.proofs.Sourced.{search-behind}
-use Rattle.structure.proofs.Found.{last-turn, last-over}
+use Rattle.record.specs.SearchLaws.{last-turn, last-over}
 use borrow.Author.Needs.{needs}
 use Rattle.structure.proofs.shape.last_loop.Statement.{statement}
 use Rattle.structure.proofs.shape.last_loop.Tie as tie

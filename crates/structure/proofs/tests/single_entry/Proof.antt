@@ -7,7 +7,7 @@ use lib.ListN.{length}
 use native.Mathlib.Omega.{arith}
 use borrow.Author.Tests.{leb-true}
 use Rattle.structure.specs.Graph.{outside, enters, hasEdge, singleEntry}
-use Rattle.structure.specs.Within.{both-true}
+use Rattle.lists.specs.Every.{both-yes}
 use Rattle.structure.proofs.Sourced.{exposed-is, any-from-zero}
 use borrow.Author.Needs.{needs}
 use Rattle.structure.proofs.tests.single_entry.Statement.{statement}
@@ -23,7 +23,7 @@ returns : tie.Need-returns
 unfolding singleEntry
 returns c =
     let a = (c .before .before .before .before .before .before .before .args) in
-    let l = both-true (leb (a .to .0) (length (a .firsts .now))) (leb (a .to .0) (length (a .lasts .now))) ((c .before .if1) .taken) in
+    let l = both-yes (leb (a .to .0) (length (a .firsts .now))) (leb (a .to .0) (length (a .lasts .now))) ((c .before .if1) .taken) in
     ap not ((c .has-exposed) .ensures ∙ exposed-is (a .blocks .now) (a .edges .now) (a .count) (a .firsts .now) (a .lasts .now) (c .before .before .before .before .before .before .before .pre) (a .from .0) (a .to .0) (search needs) (leb-true _ _ (l .0), leb-true _ _ (l .1)))
 
 has-outside-edge-requires : tie.Need-has-outside-edge-requires

@@ -1,17 +1,20 @@
--- A register that is written has its bit in the mask, and each other qword register has the bit that it had.
+-- A register that is written has its bit in the mask, and each other qword register has the bit that it had; registers are counted
+-- up to the last one written.
 -- Bit j of 2 ^ i is one exactly where i is j: a computed test over the sixteen registers.
 use mathlib.Core.Path.{_≡_, refl, ap, _∙_}
-use mathlib.Core.Bool.{Bool, true}
-use Prim.Native.Nat.{ℕ, zero, suc, _-_, _*_, _/_, _%_, _^_, _<_}
+use mathlib.Core.Bool.{Bool, true, false}
+use mathlib.Core.List.{List, [], _∷_}
+use Prim.Native.Nat.{ℕ, zero, suc, _-_, _*_, _/_, _%_, _^_, _≤_, _<_}
 use native.Mathlib.Omega.{arith}
 use borrow.Author.Tests.{le-leb, lt-ltb, eq-eqb, ne-eqb}
 use lib.Bits.{bitOr, or-shr, or-mod, or-zero-r}
 use lib.Dec.{T, eqb, eqb→eq}
-use Rattle.lists.specs.Choice.{allBelow}
-use Rattle.x86.specs.Conventions.{written, withWritten}
+use lib.ListN.{length}
+use Rattle.lists.specs.Choice.{pick, allBelow}
+use Rattle.lists.specs.Below.{below-at}
+use Rattle.x86.specs.Conventions.{written, anyWritten, upToLast, withWritten}
 use Rattle.x86.specs.Registers.{qword}
 use Rattle.x86.specs.Table.{bit}
-use Rattle.x86.proofs.Below.{below-at}
 
 pub shifted : (i : ℕ) → i < 16 → 1 * 2 ^ i % 65536 ≡ 2 ^ i
 shifted i h = eqb→eq _ _ (below-at (λ k. eqb (1 * 2 ^ k % 65536) (2 ^ k)) 16 tt i h)
@@ -56,3 +59,12 @@ module _ (m i : ℕ) (p : i < 16) where
   still-written j q n =
       let e : qword j - 80 ≡ j = omega arith in
       rw (gains, e, set-at m i j p q, ne-eqb i j n, or-zero-r (m / 2 ^ j % 2))
+
+-- registers are counted up to the last one written, so there are as many
+pub up-to : (mask : ℕ) (rs : List ℕ) → upToLast mask rs ≤ length rs
+up-to mask [] = omega arith
+up-to mask (r ∷ rs) = go (anyWritten mask (r ∷ rs)) (up-to mask rs)
+  where
+    go : (b : Bool) → upToLast mask rs ≤ length rs → pick b (suc (upToLast mask rs)) 0 ≤ suc (length rs)
+    go true h = omega arith
+    go false h = omega arith
