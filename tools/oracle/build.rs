@@ -44,7 +44,7 @@ const FLAT_NAME: &str = "src--crates--paranoia-core--src--pseudo.rs.txt";
 const TREE_NAME: &str = "crates/paranoia-core/src/pseudo.rs";
 
 /// Static libraries of the port: the crate, and the cfg that is on if its archive is there.
-const PORTS: &[(&str, &str)] = &[("record", "port_record"), ("line", "port_line"), ("abi", "port_abi")];
+const PORTS: &[(&str, &str)] = &[("record", "port_record"), ("expressions", "port_expressions"), ("abi", "port_abi")];
 
 fn main() {
     println!("cargo:rerun-if-changed=build.rs");

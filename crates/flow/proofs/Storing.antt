@@ -1,19 +1,14 @@
--- How loops store rows and search places.
+-- How loops store rows.
 -- The invariant of each: what is left from here on is what there was from the start.
 use Prim.Native.Nat.{ℕ, zero, suc, _+_, _-_, _≤_, _<_}
 use mathlib.Core.List.{List, [], _∷_, _++_}
 use mathlib.Core.Path.{_≡_, refl, sym, ap, _∙_}
-use native.Mathlib.Decide.{ℕ-discrete}
 use native.Mathlib.Numerals.{add-one}
 use native.Mathlib.Omega.{arith}
-use lib.Dec.{eqb}
 use lib.ListN.{length, set}
-use borrow.Author.Tests.{eq-eqb, ne-eqb}
-use Rattle.lists.specs.Choice.{pick}
 use Rattle.lists.specs.Put.{put}
 use Rattle.lists.specs.PutLaws.{put-length, put-append, put-cons, put-none}
-use Rattle.record.specs.Blocks.{startAt}
-use Rattle.flow.specs.Rows.{rowsFrom, placeFrom}
+use Rattle.flow.specs.Rows.{rowsFrom}
 
 -- A loop's invariant: to store the rows from k on where the loop stands is to store all of them where it began.
 pub record Left (f : ℕ → List ℕ) (n : ℕ) (l₀ : List ℕ) (at : ℕ) (l : List ℕ) (k : ℕ) : Type 0 where
@@ -49,38 +44,3 @@ put-two e e₁ e₂ at a b p q = q ∙ rw (p, put-cons, put-cons, put-none)
 
 pub put-four : (e e₁ e₂ : List ℕ) (at a b c d : ℕ) → e₁ ≡ put at (a ∷ b ∷ []) e → e₂ ≡ put (at + 2) (c ∷ d ∷ []) e₁ → e₂ ≡ put at (a ∷ b ∷ c ∷ d ∷ []) e
 put-four e e₁ e₂ at a b c d p q = q ∙ rw p (sym (put-append at (a ∷ b ∷ []) (c ∷ d ∷ []) e))
-
--- The first place, as a loop asks it.
-module _ (starts : List ℕ) (va : ℕ) where
-  pub place-all : (n : ℕ) → placeFrom starts va 0 (n - 0) ≡ placeFrom starts va 0 n
-  place-all n = let e : n - 0 ≡ n = omega arith in rw e
-
-  module _ (n k : ℕ) where
-    place-one : k < n → placeFrom starts va k (n - k) ≡ pick (eqb (startAt starts k) va) k (placeFrom starts va (k + 1) (n - (k + 1)))
-    unfolding placeFrom
-    place-one h = let d : n - k ≡ suc (n - (k + 1)) = omega arith in rw (d, add-one k)
-
-    pub place-here : k < n → startAt starts k ≡ va → placeFrom starts va k (n - k) ≡ k
-    place-here h e = place-one h ∙ rw (eq-eqb (startAt starts k) va e)
-
-    pub place-next : k < n → (startAt starts k ≡ va → ⊥) → placeFrom starts va k (n - k) ≡ placeFrom starts va (k + 1) (n - (k + 1))
-    place-next h e = place-one h ∙ rw (ne-eqb (startAt starts k) va e)
-
-    pub place-none : n ≤ k → placeFrom starts va k (n - k) ≡ 65535
-    unfolding placeFrom
-    place-none h = let d : n - k ≡ 0 = omega arith in rw d
-
-  -- The first of n places from k on, by what is known of all of them.
-  pub place-nowhere : (k n : ℕ) → ((j : ℕ) → j < k + n → startAt starts j ≡ va → ⊥) → placeFrom starts va k n ≡ 65535
-  unfolding placeFrom
-  place-nowhere k zero h = refl
-  place-nowhere k (suc n) h = rw (ne-eqb (startAt starts k) va (h k (omega arith))) (place-nowhere (suc k) n (λ j a. h j (omega arith)))
-
-  pub place-first : (k n m : ℕ) → k ≤ m → m < k + n → ((j : ℕ) → j < m → startAt starts j ≡ va → ⊥) → startAt starts m ≡ va → placeFrom starts va k n ≡ m
-  unfolding placeFrom
-  place-first k zero m a b h e = absurd (omega arith)
-  place-first k (suc n) m a b h e =
-      elim (ℕ-discrete k m) [
-        | yes q ↦ rw (q, eq-eqb (startAt starts m) va e)
-        | no q ↦ rw (ne-eqb (startAt starts k) va (h k (omega arith))) (place-first (suc k) n m (omega arith) (omega arith) h e)
-      ]

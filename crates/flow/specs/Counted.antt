@@ -1,12 +1,13 @@
 -- What the writer of the blocks' rows asks of a record: that the running indexes fit, as question 5 sees to.
 use Prim.Native.Nat.{ℕ, zero, suc, _+_, _≤_, _<_}
-use mathlib.Core.Bool.{Bool, true, false, _&&_}
+use mathlib.Core.Bool.{true, _&&_}
 use mathlib.Core.List.{List, [], _∷_}
-use mathlib.Core.Path.{_≡_, refl, ap, _∙_}
+use mathlib.Core.Path.{_≡_, ap, _∙_}
 use native.Mathlib.Decide.{decLe}
 use native.Mathlib.Omega.{arith}
 use borrow.Author.Tests.{eqb-true, leb-true}
 use Rattle.lists.specs.Choice.{sumBelow}
+use Rattle.lists.specs.Every.{both-yes}
 use Rattle.record.specs.declared.header.Header.{Header}
 use lib.Dec.{leb}
 use Rattle.record.specs.Header.{limitsOk}
@@ -59,16 +60,12 @@ module _ (h : Header) (s : List ℕ) (t : Counted h s) (k : ℕ) (below : k < h 
       let a = ap (λ (m : List ℕ). firstEdge m (h .blocks)) e in
       omega (arith, edges-within marks k (h .blocks) below, t .edges)
 
-both : (a b : Bool) → (a && b) ≡ true → (a ≡ true) × (b ≡ true)
-both true b h = (refl, h)
-both false b h = let z : false ≡ true = h in (z, cc)
-
 -- question 5 sees to it
 pub marks-counted : (h : Header) (s : List ℕ) → marksOk (marksOf h s) (h .blocks) (h .instructions) (h .edges) ≡ true → Counted h s
 unfolding marksOk firstInstruction firstEdge
 marks-counted h s ok =
-    let p = both _ _ ok in
-    let q = both _ _ (p .0) in
+    let p = both-yes _ _ ok in
+    let q = both-yes _ _ (p .0) in
     record { instructions = eqb-true _ _ (q .0); edges = eqb-true _ _ (q .1) }
 
 -- question 3's limits on what the rows are made of, and on the indent
@@ -80,7 +77,7 @@ pub record Small (h : Header) : Type 0 where
 
 pub limits-small : (h : Header) → limitsOk h ≡ true → Small h
 limits-small h ok =
-    let c = both _ _ ok in
-    let d = both (leb (h .blocks) 200 && leb (h .instructions) 500) (leb (h .edges) 600) (both _ _ (both _ _ (both _ _ (c .0) .0) .0) .0) in
-    let e = both (leb (h .blocks) 200) (leb (h .instructions) 500) (d .0) in
+    let c = both-yes _ _ ok in
+    let d = both-yes (leb (h .blocks) 200 && leb (h .instructions) 500) (leb (h .edges) 600) (both-yes _ _ (both-yes _ _ (both-yes _ _ (c .0) .0) .0) .0) in
+    let e = both-yes (leb (h .blocks) 200) (leb (h .instructions) 500) (d .0) in
     record { blocks = leb-true _ _ (e .0); instructions = leb-true _ _ (e .1); edges = leb-true _ _ (d .1); indent = leb-true _ _ (c .1) }

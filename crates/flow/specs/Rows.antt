@@ -6,8 +6,11 @@ use lib.Dec.{eqb, leb}
 use Rattle.lists.specs.Choice.{pick}
 use Rattle.record.specs.declared.header.Header.{Header}
 use Rattle.record.specs.Layout.{startsOf, marksOf, targetsOf, edgeKindsOf, bodiesOf}
-use Rattle.record.specs.Blocks.{startAt, instructionsIn, edgesIn, labelMark, firstInstruction, firstEdge, targetAt, edgeKindAt}
+use Rattle.record.specs.Blocks.{instructionsIn, edgesIn, labelMark, firstInstruction, firstEdge, targetAt, edgeKindAt}
 use Rattle.record.specs.Body.{bodyAt, operandNumber}
+use Rattle.record.specs.Search.{findFrom}
+use Rattle.record.specs.declared.search.Found.{Found}
+use Rattle.record.specs.declared.search.Found.the-variants.{At, Nothing}
 use Rattle.flow.specs.Silent.{isQuiet, endingOf}
 
 -- the rows of n numbers from k on
@@ -15,15 +18,15 @@ unfoldable pub rowsFrom : (ℕ → List ℕ) → ℕ → ℕ → List ℕ
 rowsFrom f k zero = []
 rowsFrom f k (suc n) = f k ++ rowsFrom f (suc k) n
 
--- of the n blocks from k on the first that starts at the address; 65535 if none does
-unfoldable pub placeFrom : List ℕ → ℕ → ℕ → ℕ → ℕ
-placeFrom starts va k zero = 65535
-placeFrom starts va k (suc n) = pick (eqb (startAt starts k) va) k (placeFrom starts va (suc k) n)
+-- the place that a search found; 65535 if it found none
+abbrev pub placeFound : Found → ℕ
+placeFound (At k) = k
+placeFound Nothing = 65535
 
 module _ (h : Header) (s : List ℕ) where
-  -- the place of the block that starts at an address
+  -- the place of the first block that starts at an address; question 6 makes it the only one
   unfoldable pub placeOf : ℕ → ℕ
-  placeOf va = placeFrom (startsOf h s) va 0 (h .blocks)
+  placeOf va = placeFound (findFrom (startsOf h s) va 0 (h .blocks))
 
   -- the last instruction of block k, where it has one
   abbrev pub lastBody : ℕ → List ℕ

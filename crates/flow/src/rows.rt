@@ -20,6 +20,8 @@ use record::layout::edge_kinds_at;
 use record::layout::marks_at;
 use record::layout::size;
 use record::layout::targets_at;
+use record::search::Found;
+use record::search::search;
 ghost use mathlib.Core.Path.{_≡_};
 ghost use mathlib.Core.Bool.{true};
 ghost use mathlib.Core.List.{[], _∷_};
@@ -30,14 +32,25 @@ ghost use Rattle.lists.specs.Put.{put};
 ghost use Rattle.record.specs.Blocks.{startsRise};
 ghost use Rattle.record.specs.Body.{operandNumber};
 ghost use Rattle.record.specs.Layout.{startsOf};
+ghost use Rattle.record.specs.Search.{findFrom};
 ghost use Rattle.x86.specs.Table.{isaBytes};
 ghost use Rattle.flow.specs.Silent.{isQuiet, endingOf};
-ghost use Rattle.flow.specs.Rows.{placeFrom, placeOf, blockRows, edgeRows, shownRows};
+ghost use Rattle.flow.specs.Rows.{placeFound, placeOf, blockRows, edgeRows, shownRows};
 ghost use Rattle.flow.specs.Counted.{Counted, BlockHas, rowEnding};
 
-// Of the blocks that start at an address the first; 65535 if there is none.
+// The place that a search found, or 65535.
+fn place_found(found: Found) -> u16
+    ensures { λ r. ⌜ r ≡ placeFound found ⌝ }
+{
+    match found {
+        Found::At(k) => k,
+        Found::Nothing => 65535,
+    }
+}
+
+// Of the blocks that start at an address the first, one after the other.
 fn place_in(starts: &[u8], blocks: u16, va: u64) -> u16
-    ensures { λ r. ⌜ r ≡ placeFrom (now (starts .entry)) va 0 blocks ⌝ }
+    ensures { λ r. ⌜ r ≡ placeFound (findFrom (now (starts .entry)) va 0 blocks) ⌝ }
 {
     let mut place: u16 = 0;
     while place < blocks {
@@ -45,28 +58,6 @@ fn place_in(starts: &[u8], blocks: u16, va: u64) -> u16
             return place;
         }
         place += 1;
-    }
-    65535
-}
-
-// The same among starts that rise, by halving: blocks below `low` start before the address, those from `high` on behind it.
-fn place_between(starts: &[u8], blocks: u16, va: u64) -> u16
-    requires { ⌜ startsRise (now starts) blocks ≡ true ⌝ }
-    ensures { λ r. ⌜ r ≡ placeFrom (now (starts .entry)) va 0 blocks ⌝ }
-{
-    let mut low: u16 = 0;
-    let mut high = blocks;
-    while low < high {
-        let mid = low + (high - low) / 2;
-        let a = start_at(starts, Place(mid)).0;
-        if a == va {
-            return mid;
-        }
-        if a < va {
-            low = mid + 1;
-        } else {
-            high = mid;
-        }
     }
     65535
 }
@@ -85,7 +76,7 @@ pub fn place_of(rec: &[u8], h: Header, rises: bool, va: u64) -> u16
 {
     let starts = from(rec, 24);
     if rises {
-        return place_between(starts, h.blocks, va);
+        return place_found(search(starts, h.blocks, va));
     }
     place_in(starts, h.blocks, va)
 }

@@ -11,16 +11,16 @@ use borrow.Author.Tests.{le-leb, lt-leb, le-ltb, eq-eqb, ne-eqb}
 use lib.Dec.{T, eqb, ltb, eqb→eq}
 use lib.ListN.{length, getD}
 use Rattle.lists.specs.Choice.{pick, allBelow}
+use Rattle.lists.specs.Below.{below-at}
 use Rattle.tokens.specs.Token.{Token}
 use Rattle.x86.specs.Registers.{fullRegister, qword}
 use Rattle.x86.specs.Conventions.{microsoft, systemV, argumentRegisters, argumentCount, written, anyWritten, upToLast, withWritten}
-use Rattle.x86.proofs.Written.{now-written, still-written}
-use Rattle.x86.proofs.Below.{below-at}
+use Rattle.x86.specs.Written.{now-written, still-written, up-to}
 use Rattle.record.specs.declared.header.Header.{Header}
 use Rattle.record.specs.Body.{operandCount, operandKind, operandRegister}
 use Rattle.structure.specs.Plan.{What, Line}
 use Rattle.structure.specs.Plan.What.{label-line, do-line, open-line, if-goto, while-line, close-line, goto-line, tail-call, insn-line}
-use Rattle.line.specs.Arguments.{registerArguments, argumentTokens, writtenAfter}
+use Rattle.expressions.specs.Arguments.{registerArguments, argumentTokens, writtenAfter}
 use Rattle.line.specs.ArgumentLaw.{writes, wrote, isCall, hasCall, sinceCall, Prefix, shownAs, shown, maskBehind, ArgumentLaw}
 use Rattle.line.specs.Print.{lineTokens, maskAfter, printed}
 
@@ -135,14 +135,6 @@ module _ (mask : ℕ) where
   none-written (r ∷ rs) zero n l = none-left (written mask r) (anyWritten mask rs) n
   none-written (r ∷ rs) (suc k) n l = none-written rs k (none-right (written mask r) (anyWritten mask rs) n) (le-of-suc-le-suc l)
 
-  up-to-within : (rs : List ℕ) → upToLast mask rs ≤ length rs
-  up-to-within [] = omega arith
-  up-to-within (r ∷ rs) = go (anyWritten mask (r ∷ rs)) (up-to-within rs)
-    where
-      go : (t : Bool) → upToLast mask rs ≤ length rs → pick t (suc (upToLast mask rs)) 0 ≤ suc (length rs)
-      go true ih = omega arith
-      go false ih = omega arith
-
   up-to-behind : (rs : List ℕ) (k : ℕ) → upToLast mask rs ≤ k → k < length rs → written mask (getD rs k 0) ≡ false
   up-to-behind [] k g l = absurd (not-suc-le-zero l)
   up-to-behind (r ∷ rs) k g l = go (anyWritten mask (r ∷ rs)) refl k g l (up-to-behind rs)
@@ -203,8 +195,8 @@ module _ (convention : ℕ) (bs : List (List ℕ)) where
   prefix = record {
     count = upToLast mask rs;
     ends = record {
-      within = up-to-within mask rs;
-      last-written = λ k e. register-told k (omega (arith, up-to-within mask rs)) ∙ up-to-last mask rs k e;
+      within = up-to mask rs;
+      last-written = λ k e. register-told k (omega (arith, up-to mask rs)) ∙ up-to-last mask rs k e;
       none-behind = λ k g l. register-told k l ∙ up-to-behind mask rs k g l;
     };
     tokens = refl;

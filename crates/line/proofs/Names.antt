@@ -20,9 +20,9 @@ use Rattle.x86.specs.Mnemonics.{mnemonicName}
 use Rattle.record.specs.declared.header.Header.{Header}
 use Rattle.record.specs.Body.{mnemonicOf, operandCount}
 use Rattle.operand.specs.Operand.{opTokens}
-use Rattle.line.specs.Arguments.{commaIf}
+use Rattle.expressions.specs.Arguments.{commaIf}
+use Rattle.expressions.specs.Turns.{comma-front}
 use Rattle.line.specs.Print.{lengthFrom, nameLength, insnName, assembled, assemblyTokens}
-use Rattle.line.proofs.Commas.{comma-front}
 
 module _ (n : List ℕ) (k : ℕ) where
   pub length-step : k < 24 → lengthFrom n k (24 - k) ≡ pick (eqb (u8At n k) 0) k (lengthFrom n (k + 1) (24 - (k + 1)))

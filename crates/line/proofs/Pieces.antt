@@ -22,9 +22,9 @@ use Rattle.record.specs.Body.{conditionOf, operandNumber}
 use Rattle.operand.specs.Memory.{number, memTokens, registerToken}
 use Rattle.operand.specs.Names.{nameOr}
 use Rattle.operand.specs.Operand.{opTokens}
+use Rattle.expressions.specs.Condition.{bodyOf, conditionTokens}
+use Rattle.expressions.specs.Arguments.{argumentTokens}
 use Rattle.line.specs.declared.print.Site.{Site}
-use Rattle.line.specs.Condition.{bodyOf, conditionTokens}
-use Rattle.line.specs.Arguments.{argumentTokens}
 use Rattle.line.specs.Forms.{Piece, rows, rowOf}
 use Rattle.line.specs.Forms.Piece.{nought}
 use Rattle.line.specs.Codes.{specials, pieceOf, codes, codesOf, codes-are}

@@ -19,12 +19,12 @@ use Rattle.record.specs.Layout.{bodiesOf}
 use Rattle.record.specs.Body.{bodyAt, mnemonicOf}
 use Rattle.structure.specs.Plan.{What}
 use Rattle.structure.specs.Plan.What.{insn-line}
-use Rattle.structure.specs.Flow.{firstIn}
+use Rattle.structure.specs.Graph.{firstIn}
 use Rattle.structure.specs.Reads.{whatIn, instructionIn, placeIn}
 use Rattle.flow.specs.Rows.{blockRows}
+use Rattle.expressions.specs.Condition.{bodyOf}
+use Rattle.expressions.specs.Arguments.{writtenAfter}
 use Rattle.line.specs.declared.print.Site.{Site}
-use Rattle.line.specs.Condition.{bodyOf}
-use Rattle.line.specs.Arguments.{writtenAfter}
 use Rattle.line.specs.Forms.{formOf, rowOf, insnForm, returnForm, returnsValue}
 use Rattle.line.specs.Lines.{whats, whatAt, lineIn}
 use Rattle.line.specs.Print.{piecesTokens, lineTokens, maskAfter, printed}

@@ -15,8 +15,8 @@ use Rattle.record.specs.Body.{mnemonicOf, operandCount, operandKind, operandReg
 use Rattle.flow.specs.Silent.{call}
 use Rattle.structure.specs.Plan.{What, Line}
 use Rattle.structure.specs.Plan.What.{label-line, do-line, open-line, if-goto, while-line, close-line, goto-line, tail-call, insn-line}
-use Rattle.line.specs.Condition.{bodyOf}
-use Rattle.line.specs.Arguments.{listed, argumentTokens}
+use Rattle.expressions.specs.Condition.{bodyOf}
+use Rattle.expressions.specs.Arguments.{listed, argumentTokens}
 use Rattle.line.specs.Print.{lineTokens, maskAfter, printed}
 
 -- an instruction, given by its body, writes register r

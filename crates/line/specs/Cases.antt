@@ -24,18 +24,19 @@ use Rattle.x86.specs.Conditions.{conditionNames, conditionName, operatorText, r
 use Rattle.record.specs.declared.header.Header.{Header}
 use Rattle.record.specs.Layout.{bodiesAt}
 use Rattle.record.specs.Atlas.{textStart}
-use Rattle.operand.specs.Names.{entryFrom, entryAt, entryToken, nameOr, inSpan}
+use Rattle.operand.specs.Names.{entryAt, entryToken, nameOr, inSpan}
 use Rattle.operand.specs.Memory.{slotBase, slotNumber, isSlot, slotToken, displacement, addressExpr, memExpr, memTokens, number}
 use Rattle.operand.specs.Operand.{signedRead, immediateNumber, immediate, opTokens}
-use Rattle.line.specs.Condition.{flagWriter, afterWriter, conditionTokens}
+use Rattle.expressions.specs.Condition.{flagWriter, afterWriter, conditionTokens}
 use Rattle.record.specs.Blocks.{firstInstruction, firstEdge}
-use Rattle.structure.specs.Flow.{closesLoop, hasEdge, endingIn, singleEntry, escapes as leaves, outsideJump}
-use Rattle.structure.specs.Shape.{shapeAt, lastLoop, lastFrom, regionAt, opensRegion}
+use Rattle.structure.specs.Graph.{closesLoop, hasEdge, endingIn, singleEntry, escapes as leaves, outsideJump}
+use Rattle.record.specs.Search.{findFrom, lastFrom}
+use Rattle.structure.specs.Shape.{shapeAt, lastLoop, regionAt, opensRegion}
 use Rattle.structure.specs.Plan.{rangeLines, rangeGo, plainLines, shownLines, bodyCount, closingLines, loopLines, flatLines, flatBlock, testBlock}
 use Rattle.flow.specs.Silent.{isQuiet, isPrologueNoise, endingOf}
-use Rattle.flow.specs.Rows.{rowsFrom, blockRow, edgeRow, shownRow, blockEnding, blockBranch, placeFrom, placeOf, blockRows, edgeRows, shownRows}
+use Rattle.flow.specs.Rows.{rowsFrom, blockRow, edgeRow, shownRow, blockEnding, blockBranch, placeOf, blockRows, edgeRows, shownRows}
 use Rattle.flow.specs.Planned.{recordPlan}
-use Rattle.line.specs.Arguments.{writtenAfter}
+use Rattle.expressions.specs.Arguments.{writtenAfter}
 use Rattle.line.specs.Forms.{Piece, rows, rowOf, insnForm, plainForm, returnsValue}
 use Rattle.line.specs.Forms.Piece.{op, condition}
 use Rattle.line.specs.Print.{pieceTokens, piecesTokens, lineTokens, printed}
@@ -214,7 +215,7 @@ hex l (suc k) v h =
     ]
 
 pub all-print : map shown cases ≡ map (λ (c : Case). c .expected) cases
-unfolding cases join run printed lineTokens piecesTokens rowOf rows insnForm plainForm returnsValue recordPlan blockRows edgeRows edgeRow shownRows shownRow rowsFrom blockRow firstInstruction firstEdge blockEnding blockBranch endingOf placeOf placeFrom isQuiet isPrologueNoise rangeLines rangeGo shapeAt lastLoop lastFrom closesLoop hasEdge endingIn regionAt opensRegion singleEntry leaves outsideJump plainLines shownLines bodyCount closingLines loopLines flatLines flatBlock testBlock negate relationAfterOther writtenAfter pieceTokens opTokens immediate immediateNumber signedRead memTokens memExpr addressExpr displacement slotToken isSlot slotNumber slotBase nameOr entryAt entryFrom entryToken textStart inSpan prefixed wordToken words numText sign sizeText hexOf digit registerName registerNames literalText opening closing escapes escape letter conditionTokens flagWriter afterWriter writesFlags mnemonicName mnemonicNames conditionName conditionNames operatorText relationAfterCmp printsUnsigned
+unfolding cases join run printed lineTokens piecesTokens rowOf rows insnForm plainForm returnsValue recordPlan blockRows edgeRows edgeRow shownRows shownRow rowsFrom blockRow firstInstruction firstEdge blockEnding blockBranch endingOf placeOf findFrom isQuiet isPrologueNoise rangeLines rangeGo shapeAt lastLoop lastFrom closesLoop hasEdge endingIn regionAt opensRegion singleEntry leaves outsideJump plainLines shownLines bodyCount closingLines loopLines flatLines flatBlock testBlock negate relationAfterOther writtenAfter pieceTokens opTokens immediate immediateNumber signedRead memTokens memExpr addressExpr displacement slotToken isSlot slotNumber slotBase nameOr entryAt entryToken textStart inSpan prefixed wordToken words numText sign sizeText hexOf digit registerName registerNames literalText opening closing escapes escape letter conditionTokens flagWriter afterWriter writesFlags mnemonicName mnemonicNames conditionName conditionNames operatorText relationAfterCmp printsUnsigned
 all-print =
     rw (
       hex false 0 10 (omega arith),

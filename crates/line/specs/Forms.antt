@@ -14,7 +14,7 @@ use Rattle.record.specs.Body.{bodyAt, mnemonicOf, operandCount, operandKind, op
 use Rattle.operand.specs.Memory.{isIp}
 use Rattle.structure.specs.Plan.{What}
 use Rattle.structure.specs.Plan.What.{label-line, do-line, open-line, if-goto, while-line, close-line, goto-line, tail-call, insn-line}
-use Rattle.line.specs.Condition.{bodyOf}
+use Rattle.expressions.specs.Condition.{bodyOf}
 
 -- a piece of a line: a fixed token; operand k; the memory operand as an address; the number 0 or -1; the condition, or the one that
 -- it turns into; a call's arguments; the name of the branch's target with a word as prefix; the block's label; rax or eax; the

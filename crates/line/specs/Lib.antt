@@ -1,5 +1,3 @@
-pub mod Condition
-pub mod Arguments
 pub mod Forms
 pub mod Codes
 pub mod Print
@@ -7,4 +5,3 @@ pub mod Lines
 pub mod Bounds
 pub mod ArgumentLaw
 pub mod Cases
-pub mod Export

@@ -20,11 +20,11 @@ use Rattle.operand.specs.Names.{nameOr}
 use Rattle.operand.specs.Operand.{opTokens}
 use Rattle.structure.specs.Plan.{What, Line}
 use Rattle.structure.specs.Plan.What.{label-line, do-line, open-line, if-goto, while-line, close-line, goto-line, tail-call, insn-line}
-use Rattle.structure.specs.Flow.{firstIn}
+use Rattle.structure.specs.Graph.{firstIn}
 use Rattle.flow.specs.Rows.{blockRows}
+use Rattle.expressions.specs.Condition.{bodyOf, conditionTokens}
+use Rattle.expressions.specs.Arguments.{argumentTokens, writtenAfter, commaIf}
 use Rattle.line.specs.declared.print.Site.{Site}
-use Rattle.line.specs.Condition.{bodyOf, conditionTokens}
-use Rattle.line.specs.Arguments.{argumentTokens, writtenAfter, commaIf}
 use Rattle.line.specs.Forms.{Piece, formOf, rowOf}
 use Rattle.line.specs.Forms.Piece.{fixed, op, address, nought, ones, condition, negated, arguments, target, start, accumulator, assembly}
 

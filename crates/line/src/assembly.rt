@@ -1,5 +1,5 @@
 // `__asm`: an instruction's name and operands, all Text.
-use crate::arguments::push_listed;
+use expressions::arguments::push_listed;
 use lists::parts::part;
 use lists::reads::from;
 use lists::reads::u8_at;

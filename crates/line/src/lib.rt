@@ -1,8 +1,5 @@
-// Lines: conditions, arguments, the forms of lines, and the lines of a plan.
-pub mod arguments;
+// Lines: their forms, their tokens, and the lines of a plan.
 pub mod assembly;
-pub mod condition;
-pub mod export;
 pub mod forms;
 pub mod lines;
 pub mod print;

@@ -1,11 +1,11 @@
 // Planned lines: each by its code, with the registers written before it.
-use crate::arguments::written_after;
 use crate::forms::insn_form;
 use crate::forms::return_form;
 use crate::forms::returns_value;
 use crate::print::Site;
-use crate::print::body_of;
 use crate::print::push_row;
+use expressions::arguments::written_after;
+use expressions::condition::body_of;
 use lists::reads::from;
 use lists::reads::u16_in;
 use record::body::body_at;

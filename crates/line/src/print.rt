@@ -1,8 +1,9 @@
 // The tokens of a line: its form's pieces, one after the other.
-use crate::arguments::arguments;
 use crate::assembly::assembly;
-use crate::condition::condition;
 use crate::rows::row_codes;
+use expressions::arguments::arguments;
+use expressions::condition::body_of;
+use expressions::condition::condition;
 use lists::reads::from;
 use operand::memory::mem;
 use operand::memory::push_register;
@@ -10,11 +11,9 @@ use operand::names::name_or;
 use operand::operand::op;
 use record::blocks::Place;
 use record::blocks::start_at;
-use record::body::body_at;
 use record::body::condition_code;
 use record::body::op_number;
 use record::header::Header;
-use record::layout::bodies_at;
 use tokens::pen::Pen;
 use tokens::push::push_num;
 use tokens::push::push_prefixed;
@@ -29,7 +28,7 @@ ghost use Prim.Native.Nat.{_≤_, _<_, _-_};
 ghost use Rattle.tokens.specs.Sheet.{sheet, pushes};
 ghost use Rattle.x86.specs.Table.{isaBytes};
 ghost use Rattle.operand.specs.Lent.{Lent};
-ghost use Rattle.line.specs.Condition.{bodyOf};
+ghost use Rattle.expressions.specs.Condition.{bodyOf};
 ghost use Rattle.line.specs.Codes.{rowBytes, pieceOf};
 ghost use Rattle.line.specs.Forms.{rowOf};
 ghost use Rattle.line.specs.Print.{accumulatorToken, pieceTokens, piecesTokens};
@@ -42,13 +41,6 @@ pub struct Site {
     pub range: u16,
     pub place: u16,
     pub written: u16,
-}
-
-// The body of instruction i.
-pub fn body_of(rec: &[u8], h: Header, i: u16) -> &[u8]
-    ensures { λ r. ⌜ now r ≡ bodyOf h (now (rec .entry)) i ⌝ }
-{
-    body_at(from(rec, bodies_at(h)), i)
 }
 
 // rax or eax.

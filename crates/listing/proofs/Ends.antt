@@ -8,7 +8,7 @@ use native.Mathlib.Omega.{arith}
 use lib.ListN.{length, getD, take, length-append, length-take}
 use lib.Seq.{take-append-add, take-length}
 use Rattle.tokens.specs.Token.{Token}
-use Rattle.tokens.specs.Listing.{flat, endsFrom, join, all, countsFrom, listing, bytesOf}
+use Rattle.tokens.specs.Listing.{textOf, endsFrom, join, all, countsFrom, listing, bytesOf}
 use Rattle.tokens.specs.ListingLaws.{all-bytes}
 use Rattle.record.specs.declared.header.Header.{Header}
 use Rattle.record.specs.Layout.{startsAt, startsOf, addressesAt, addressesOf}
@@ -21,14 +21,14 @@ use Rattle.pseudo.specs.Listed.{addressFor, lineAddress}
 use Rattle.page.specs.Page.{tokensEnd, linesEnd}
 
 -- ---- tokens
-ends-at : (x : ℕ) (ts : List Token) (k : ℕ) → k < length ts → getD (endsFrom x ts) k 0 ≡ x + length (flat (take (suc k) ts))
-unfolding endsFrom flat
+ends-at : (x : ℕ) (ts : List Token) (k : ℕ) → k < length ts → getD (endsFrom x ts) k 0 ≡ x + length (textOf (take (suc k) ts))
+unfolding endsFrom textOf
 ends-at x [] k h = absurd (not-suc-le-zero h)
 ends-at x (t ∷ ts) zero h = rw append-nil
-ends-at x (t ∷ ts) (suc k) h = ends-at (x + length (t .bytes)) ts k (omega arith) ∙ rw (length-append (t .bytes) (flat (take (suc k) ts))) (omega arith)
+ends-at x (t ∷ ts) (suc k) h = ends-at (x + length (t .bytes)) ts k (omega arith) ∙ rw (length-append (t .bytes) (textOf (take (suc k) ts))) (omega arith)
 
-tokens-end : (ts : List Token) (k : ℕ) → k ≤ length ts → tokensEnd (endsFrom 0 ts) k ≡ length (flat (take k ts))
-unfolding flat
+tokens-end : (ts : List Token) (k : ℕ) → k ≤ length ts → tokensEnd (endsFrom 0 ts) k ≡ length (textOf (take k ts))
+unfolding textOf
 tokens-end ts zero h = refl
 tokens-end ts (suc k) h = ends-at 0 ts k h ∙ zero-add _
 

@@ -15,7 +15,7 @@ use Rattle.record.specs.declared.header.Header.{Header}
 use Rattle.record.specs.Header.{headerOf, fieldsOk, limitsOk}
 use Rattle.record.specs.Layout.{sizeOf, lengthOk}
 use Rattle.record.specs.Asked.{ask, sizesNo, firstNo}
-use Rattle.record.specs.AskedLaws.{both-yes}
+use Rattle.lists.specs.Every.{both-yes}
 use Rattle.pseudo.specs.Called.{callNo}
 use Rattle.page.specs.Page.{refusal}
 use Rattle.listing.specs.Output.{outputText}

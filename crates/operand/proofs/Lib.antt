@@ -1,4 +1,3 @@
-pub mod Search
 pub mod Entries
 pub mod Integers
 pub mod Pushes

@@ -15,10 +15,10 @@ use Rattle.lists.specs.Put.{put}
 use Rattle.lists.specs.PutLaws.{put-fits}
 use Rattle.tokens.specs.Token.{Token}
 use Rattle.tokens.specs.Sheet.{Sheet, sheet, pushes, firstPen}
-use Rattle.tokens.specs.Listing.{flat, join}
-use Rattle.tokens.specs.ListingLaws.{line-wrote, join-flat}
+use Rattle.tokens.specs.Listing.{textOf, join}
+use Rattle.tokens.specs.ListingLaws.{line-wrote, join-text}
 use Rattle.tokens.specs.declared.pen.Pen.{Pen}
-use Rattle.operand.specs.Alike.{textOf, sameBytes, Printed}
+use Rattle.operand.specs.Alike.{sameBytes, Printed}
 
 -- the first n bytes of two lists from byte i on
 abbrev pub SameFrom : List ℕ → List ℕ → ℕ → ℕ → Type 0
@@ -64,19 +64,12 @@ pub fronts-same : {s t d e d′ e′ : List ℕ} {n m : ℕ} {r : Bool} → Prin
     → r ≡ sameBytes (take n d′) (take n e′) → r ≡ sameBytes s t
 fronts-same {s} {t} {d} {e} {d′} {e′} {n} {m} p q hd he h x = x ∙ rw (printed-front s d d′ n hd p, h, printed-front t e e′ m he q)
 
--- `textOf` is `flat`
-text-flat : (ts : List Token) → flat ts ≡ textOf ts
-unfolding flat textOf
-text-flat [] = refl
-text-flat (t ∷ ts) = rw (text-flat ts)
-
 -- tokens pushed by the first pen
 pub printed : (ts : List Token) (e e′ x x′ k k′ : List ℕ) (f r : Pen) → length (textOf ts) ≤ 640 → length ts ≤ 16 → f ≡ firstPen
     → sheet e′ x′ k′ r ≡ pushes (sheet e x k f) ts → Printed (textOf ts) e e′ (r .text)
 printed ts e e′ x x′ k k′ f r short few first pushed =
     let q = rw first at pushed in
-    let j : flat (join ts) ≡ textOf ts = join-flat ts ∙ text-flat ts in
-    let l : length (flat ts) ≡ length (textOf ts) = ap length (text-flat ts) in
+    let j = join-text ts in
     let w = line-wrote (sheet e x k firstPen) ts (omega arith) (omega arith) in
     let n : r .text ≡ length (textOf ts) = ap (λ (s : Sheet). s .marks .pen .text) q ∙ w .end ∙ zero-add _ ∙ ap length j in
     record {

@@ -11,14 +11,14 @@ use Rattle.text.specs.Number.{numText}
 use Rattle.tokens.specs.Token.{Token, token, punct}
 use Rattle.tokens.specs.Words.{words, wordToken, prefixed}
 use Rattle.tokens.specs.Sheet.{Sheet, push, pushes}
-use Rattle.tokens.specs.SheetLaws.{next, pushes-append}
+use Rattle.tokens.specs.SheetLaws.{next, chain}
 use Rattle.record.specs.declared.header.Header.{Header}
 use Rattle.record.specs.Body.{segmentOf, indexOf, scaleOf, memorySize, memoryAddress}
 use Rattle.operand.specs.declared.numbers.Sized.{Sized}
 use Rattle.record.specs.Layout.{pairsOf}
 use Rattle.record.specs.Atlas.{entryKind}
-use Rattle.operand.specs.declared.names.Entry.{Entry}
-use Rattle.operand.specs.declared.names.Entry.the-variants.{At, Nothing}
+use Rattle.record.specs.declared.search.Found.{Found}
+use Rattle.record.specs.declared.search.Found.the-variants.{At, Nothing}
 use Rattle.operand.specs.Expr.{Expr, wrapIf, wrap}
 use Rattle.operand.specs.Names.{entryAt, entryToken, nameOrAt, nameOr, literalAt, isLiteral}
 use Rattle.operand.specs.Memory.{registerToken, number, typeWord, prefixWord, segmentWord, segmentRead, global, isSp, isNegative, slotBase, slotNumber, slotToken, addressOf, scaled, registers, displacement, addressExpr, address}
@@ -30,9 +30,6 @@ yes-is a b k p q = eq-eqb b k (sym p ∙ q)
 
 pub no-is : (a b k : ℕ) → a ≡ b → (a ≡ k → ⊥) → eqb b k ≡ false
 no-is a b k p q = ne-eqb b k (λ e. q (p ∙ e))
-
-pub chain : (S S₁ S₂ : Sheet) (a b : List Token) → S₁ ≡ pushes S a → S₂ ≡ pushes S₁ b → S₂ ≡ pushes S (a ++ b)
-chain S S₁ S₂ a b p q = q ∙ (ap (λ (s : Sheet). pushes s b) p ∙ sym (pushes-append S a b))
 
 two : (S S₁ S₂ : Sheet) (t u : Token) → S₁ ≡ push S t → S₂ ≡ push S₁ u → S₂ ≡ pushes S (t ∷ u ∷ [])
 unfolding pushes
@@ -113,7 +110,7 @@ module _ (h : Header) (b : List ℕ) where
   segment-pushed S S₁ S₂ w m g v s p q r a e c = rw (← p, ← q, ← r, ← e) (chain S S₁ S₂ (wordToken w ∷ []) (punct "(" ∷ number false v ∷ punct ")" ∷ []) a c)
 
 -- a literal stands for an address where one was found
-literal-found : (h : Header) (s : List ℕ) (e : Entry) (va : ℕ) → eqb (nameOrAt h s e va 101 .kind) 5 ≡ literalAt h s e
+literal-found : (h : Header) (s : List ℕ) (e : Found) (va : ℕ) → eqb (nameOrAt h s e va 101 .kind) 5 ≡ literalAt h s e
 unfolding entryToken prefixed wordToken words
 literal-found h s (At k) va = go _ _ (eqb (entryKind (pairsOf h s) k) 3)
   where
@@ -122,7 +119,7 @@ literal-found h s (At k) va = go _ _ (eqb (entryKind (pairsOf h s) k) 3)
     go x y false = refl
 literal-found h s Nothing va = refl
 
-module _ (h : Header) (s b : List ℕ) (deref l : Bool) (found : Entry) (va m w : ℕ)
+module _ (h : Header) (s b : List ℕ) (deref l : Bool) (found : Found) (va m w : ℕ)
     (p : va ≡ memoryAddress b) (q : found ≡ entryAt h s va) (r : m ≡ memorySize b) (t : w ≡ prefixWord m) (u : l ≡ literalAt h s found) where
   name-found : nameOrAt h s found va w ≡ nameOr h s (memoryAddress b) (prefixWord (memorySize b))
   unfolding nameOr

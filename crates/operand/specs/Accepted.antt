@@ -3,24 +3,24 @@
 use mathlib.Core.Path.{_≡_}
 use mathlib.Core.Bool.{true, _&&_}
 use mathlib.Core.List.{List}
-use Prim.Native.Nat.{ℕ, suc, _-_, _<_}
-use native.Mathlib.Omega.{arith}
-use borrow.Author.Tests.{ltb-true, ne-eqb}
+use Prim.Native.Nat.{ℕ}
+use Rattle.lists.specs.Every.{both-yes}
+use Rattle.lists.specs.Below.{all-at}
 use Rattle.record.specs.declared.header.Header.{Header}
 use Rattle.record.specs.Header.{headerOf}
 use Rattle.record.specs.Layout.{entriesOf, pairsOf, textsOf}
 use Rattle.record.specs.Atlas.{entryAddress, entryKind, rises, entryKindOk, entriesOk, atlasOk}
 use Rattle.record.specs.Asked.{atlasAsked, firstNo}
-use Rattle.record.specs.AskedLaws.{both-yes, yes-atlas}
-use Rattle.record.specs.Rising.{all-at}
+use Rattle.record.specs.AskedLaws.{yes-atlas}
+use Rattle.record.specs.Search.{Rises}
+use Rattle.record.specs.Rising.{tested-rise}
 use Rattle.operand.specs.Lent.{Rising}
 
-entries-rise : (entries pairs : List ℕ) (A : ℕ) → entriesOk entries pairs A ≡ true → (k : ℕ) → suc k < A → entryAddress entries k < entryAddress entries (suc k)
+entries-rise : (entries pairs : List ℕ) (A : ℕ) → entriesOk entries pairs A ≡ true → Rises (entryAddress entries) A
 unfolding entriesOk
-entries-rise entries pairs A h k l =
-    let r : rises entries (suc k) ≡ true = both-yes (rises entries (suc k)) (entryKindOk (entryKind pairs (suc k))) (all-at (λ j. rises entries j && entryKindOk (entryKind pairs j)) A (suc k) h l) .0 in
-    let q : suc k - 1 ≡ k = omega arith in
-    ltb-true (entryAddress entries k) (entryAddress entries (suc k)) (rw (ne-eqb (suc k) 0 (λ e. omega arith), q) at r)
+entries-rise entries pairs A h =
+    tested-rise (entryAddress entries) A
+    (λ k l. both-yes (rises entries k) (entryKindOk (entryKind pairs k)) (all-at (λ j. rises entries j && entryKindOk (entryKind pairs j)) A k h l) .0)
 
 -- question 9 asks it
 asked-rising : (h : Header) (s : List ℕ) → atlasAsked h s ≡ true → Rising h s

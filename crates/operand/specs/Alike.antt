@@ -1,18 +1,14 @@
 -- "TEST operands that print alike": the texts of two operands are the same bytes.
 use mathlib.Core.Path.{_≡_}
 use mathlib.Core.Bool.{Bool, true, false, _&&_}
-use mathlib.Core.List.{List, [], _∷_, _++_}
+use mathlib.Core.List.{List, [], _∷_}
 use Prim.Native.Nat.{ℕ, _≤_}
 use lib.Dec.{eqb}
 use lib.ListN.{length}
 use Rattle.lists.specs.Put.{put}
-use Rattle.tokens.specs.Token.{Token}
+use Rattle.tokens.specs.Listing.{textOf}
 use Rattle.record.specs.declared.header.Header.{Header}
 use Rattle.operand.specs.Operand.{opTokens}
-
-unfoldable pub textOf : List Token → List ℕ
-textOf [] = []
-textOf (t ∷ ts) = t .bytes ++ textOf ts
 
 unfoldable pub sameBytes : List ℕ → List ℕ → Bool
 sameBytes [] [] = true

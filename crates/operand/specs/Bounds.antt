@@ -7,30 +7,32 @@ use Prim.Native.Nat.{ℕ, zero, suc, _+_, _*_, _/_, _%_, _^_, _≤_, _<_}
 use native.Mathlib.Decide.{decLt}
 use native.Mathlib.Omega.{arith}
 use borrow.Author.Tests.{lt-ltb, le-ltb}
-use lib.Dec.{T, leb, leb→le, eqb, ltb}
+use lib.Dec.{leb, leb→le, eqb, ltb}
 use lib.IntN.{ℤ, pos, negsuc, subℕ, _+ℤ_, natAbs}
 use lib.ListN.{length, getD, drop, length-append, length-take}
 use lib.Seq.{getD-drop}
 use Rattle.lists.specs.Choice.{pick}
+use Rattle.lists.specs.Every.{every, every-at}
 use Rattle.lists.specs.Bytes.{u16At, u32At, u64At}
 use Rattle.lists.specs.Signed.{i32Of, i64Of}
 use Rattle.text.specs.NumberLaws.{num-64}
 use Rattle.text.specs.LiteralBounds.{literal-short}
 use Rattle.tokens.specs.Token.{Token, token, punct}
 use Rattle.tokens.specs.Words.{wordToken, prefixed}
+use Rattle.tokens.specs.Listing.{textOf}
+use Rattle.tokens.specs.ListingLaws.{text-append}
 use Rattle.tokens.specs.Bounds.{word-short, prefixed-short}
 use Rattle.x86.specs.Registers.{registerNames, registerName}
 use Rattle.record.specs.declared.header.Header.{Header}
 use Rattle.record.specs.Layout.{pairsAt, pairsOf}
 use Rattle.record.specs.Atlas.{entryKind}
 use Rattle.record.specs.Body.{operandKind, operandAt, scaleOf, indexOf, memorySize, memoryAddress}
-use Rattle.operand.specs.declared.names.Entry.{Entry}
-use Rattle.operand.specs.declared.names.Entry.the-variants.{At, Nothing}
+use Rattle.record.specs.declared.search.Found.{Found}
+use Rattle.record.specs.declared.search.Found.the-variants.{At, Nothing}
 use Rattle.operand.specs.Expr.{Expr, wrap, wrapIf}
 use Rattle.operand.specs.Names.{entryAt, entryToken, nameOrAt, nameOr, inSpan, isLiteral}
 use Rattle.operand.specs.Memory.{registerToken, number, prefixWord, addressOf, isNegative, isShifted, slotBase, slotNumber, isSlot, slotToken, displacement, scaled, registers, addressExpr, isSegmentRead, isGlobal, segmentRead, global, address, memExpr, memTokens}
 use Rattle.operand.specs.Operand.{signedRead, inWindow, immediateNumber, immediate, opTokens}
-use Rattle.operand.specs.Alike.{textOf}
 
 -- a list of bytes
 abbrev pub AllBytes : List ℕ → Type 0
@@ -53,24 +55,6 @@ module _ (s : List ℕ) (bs : AllBytes s) where
 pub pick-le : {A : Type 0} (f : A → ℕ) (n : ℕ) (t : Bool) (x y : A) → f x ≤ n → f y ≤ n → f (pick t x y) ≤ n
 pick-le f n true x y p q = p
 pick-le f n false x y p q = q
-
-left : (a b : Bool) → T (a && b) → T a
-left true b t = tt
-left false b t = t
-
-right : (a b : Bool) → T (a && b) → T b
-right true b t = t
-right false b t = absurd t
-
--- a test that each entry of a list passes
-abbrev pub every : {A : Type 0} → (A → Bool) → List A → Bool
-every q [] = true
-every q (x ∷ l) = q x && every q l
-
-pub every-at : {A : Type 0} (q : A → Bool) (d : A) → T (q d) → (l : List A) (i : ℕ) → T (every q l) → T (q (getD l i d))
-every-at q d p [] i h = p
-every-at q d p (x ∷ l) zero h = left (q x) (every q l) h
-every-at q d p (x ∷ l) (suc i) h = every-at q d p l i (right (q x) (every q l) h)
 
 -- at most n letters
 abbrev pub upTo : ℕ → List ℕ → Bool
@@ -128,13 +112,8 @@ pub one : (t : Token) (m : ℕ) → length (t .bytes) ≤ m → Within 1 m (t �
 unfolding textOf
 one t m p = record { few = omega arith; short = rw append-nil p }
 
-text-append : (a b : List Token) → length (textOf (a ++ b)) ≡ length (textOf a) + length (textOf b)
-unfolding textOf
-text-append [] b = omega arith
-text-append (t ∷ a) b = omega (arith, length-append (t .bytes) (textOf (a ++ b)), length-append (t .bytes) (textOf a), text-append a b)
-
 pub both : {n m k l : ℕ} {a b : List Token} → Within n m a → Within k l b → Within (n + k) (m + l) (a ++ b)
-both {a = a} {b = b} p q = record { few = omega (arith, length-append a b); short = omega (arith, text-append a b) }
+both {a = a} {b = b} p q = record { few = omega (arith, length-append a b); short = rw text-append (omega (arith, length-append (textOf a) (textOf b))) }
 
 -- of two, either
 pub either : {A : Type 0} (P : A → Type 0) (t : Bool) (x y : A) → P x → P y → P (pick t x y)
@@ -214,7 +193,7 @@ module _ (h : Header) (s : List ℕ) (ss : AllBytes s) where
   unfolding nameOr
   name-within va w p = go (entryAt h s va)
     where
-      go : (e : Entry) → Within 1 486 (nameOrAt h s e va w ∷ [])
+      go : (e : Found) → Within 1 486 (nameOrAt h s e va w ∷ [])
       go (At k) = entry-within k
       go Nothing = more 1 486 (one (prefixed w va) 46 (prefixed-short w va p)) (omega arith) (omega arith)
 

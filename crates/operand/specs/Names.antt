@@ -1,7 +1,7 @@
 -- `name_or`: what stands for an address. "A string gives one Address token .. A name is copied without escaping. No entry: prefix
 -- and upper hex."
-use Prim.Native.Nat.{ℕ, zero, suc, _+_}
-use mathlib.Core.Bool.{Bool, true, false, not, _&&_, _||_}
+use Prim.Native.Nat.{ℕ}
+use mathlib.Core.Bool.{Bool, false, not, _&&_}
 use mathlib.Core.List.{List}
 use lib.Dec.{eqb, leb}
 use Rattle.lists.specs.Choice.{pick, anyBelow}
@@ -10,18 +10,15 @@ use Rattle.tokens.specs.Token.{Token, token}
 use Rattle.tokens.specs.Words.{prefixed}
 use Rattle.record.specs.declared.header.Header.{Header}
 use Rattle.record.specs.Layout.{entriesOf, pairsOf, textsOf, spansOf}
-use Rattle.record.specs.Atlas.{entryAddress, entryKind, entryText, spanFirst, spanLast}
-use Rattle.operand.specs.declared.names.Entry.{Entry}
-use Rattle.operand.specs.declared.names.Entry.the-variants.{At, Nothing}
-
--- the first of the n entries from k on that stands at the address: rising addresses make it the only one
-unfoldable pub entryFrom : List ℕ → ℕ → ℕ → ℕ → Entry
-entryFrom entries va k zero = Nothing
-entryFrom entries va k (suc n) = pick (eqb (entryAddress entries k) va) (At k) (entryFrom entries va (suc k) n)
+use Rattle.record.specs.Atlas.{entryKind, entryText, spanFirst, spanLast}
+use Rattle.record.specs.Search.{findFrom}
+use Rattle.record.specs.declared.search.Found.{Found}
+use Rattle.record.specs.declared.search.Found.the-variants.{At, Nothing}
 
 module _ (h : Header) (s : List ℕ) where
-  unfoldable pub entryAt : ℕ → Entry
-  entryAt va = entryFrom (entriesOf h s) va 0 (h .atlas)
+  -- the first entry that stands at the address: rising addresses make it the only one
+  unfoldable pub entryAt : ℕ → Found
+  entryAt va = findFrom (entriesOf h s) va 0 (h .atlas)
 
   -- the token of entry k: kind 1 string, 2 wide string, 3 name
   unfoldable pub entryToken : ℕ → Token
@@ -30,7 +27,7 @@ module _ (h : Header) (s : List ℕ) where
       let t = entryText (pairsOf h s) (textsOf h s) k in
       pick (eqb kind 3) (token 4 t) (token 5 (literalText (eqb kind 2) t))
 
-  abbrev pub nameOrAt : Entry → ℕ → ℕ → Token
+  abbrev pub nameOrAt : Found → ℕ → ℕ → Token
   nameOrAt (At k) va w = entryToken k
   nameOrAt Nothing va w = prefixed w va
 
@@ -43,7 +40,7 @@ module _ (h : Header) (s : List ℕ) where
   isLiteral va = eqb (nameOr va 101 .kind) 5
 
   -- the same of what a search found: an entry that is no name
-  abbrev pub literalAt : Entry → Bool
+  abbrev pub literalAt : Found → Bool
   literalAt (At k) = not (eqb (entryKind (pairsOf h s) k) 3)
   literalAt Nothing = false
 

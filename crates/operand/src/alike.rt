@@ -5,8 +5,9 @@ use tokens::pen::first_pen;
 ghost use mathlib.Core.Path.{_≡_};
 ghost use Prim.Native.Nat.{_≤_};
 ghost use lib.ListN.{length, take};
+ghost use Rattle.tokens.specs.Listing.{textOf};
 ghost use Rattle.operand.specs.Operand.{opTokens};
-ghost use Rattle.operand.specs.Alike.{textOf, sameBytes, alike, Printed};
+ghost use Rattle.operand.specs.Alike.{sameBytes, alike, Printed};
 ghost use Rattle.operand.specs.Lent.{Lent};
 
 // Whether two lists begin with the same n bytes.

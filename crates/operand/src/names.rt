@@ -1,7 +1,6 @@
-// Names of addresses: the atlas searched by halving, the token of what was found, and the spans.
+// Names of addresses: the entry of the atlas, the token of what was found, and the spans.
 use lists::parts::part;
 use lists::reads::from;
-use record::atlas::entry_address;
 use record::atlas::entry_kind;
 use record::atlas::entry_length;
 use record::atlas::span_first;
@@ -12,6 +11,8 @@ use record::layout::entries_at;
 use record::layout::pairs_at;
 use record::layout::spans_at;
 use record::layout::texts_at;
+use record::search::Found;
+use record::search::search;
 use tokens::pen::Pen;
 use tokens::push::push_bytes;
 use tokens::push::push_literal;
@@ -23,42 +24,21 @@ ghost use Rattle.tokens.specs.Words.{wordBytes};
 ghost use Rattle.operand.specs.Names.{entryAt, entryToken, nameOrAt, nameOr, literalAt, inSpan};
 ghost use Rattle.operand.specs.Lent.{Rising, Lent};
 
-// An entry of the atlas that a search found.
-pub enum Entry {
-    At(u16),
-    Nothing,
-}
-
-// The entry at an address, by halving: those below `low` stand before the address, those from `high` on behind it.
-pub fn entry_at(rec: &[u8], h: Header, va: u64) -> Entry
+// The entry at an address.
+pub fn entry_at(rec: &[u8], h: Header, va: u64) -> Found
     requires { ⌜ Rising h (now rec) ⌝ }
     ensures { λ r. ⌜ r ≡ entryAt h (now (rec .entry)) va ⌝ }
 {
-    let entries = from(rec, entries_at(h));
-    let mut low: u16 = 0;
-    let mut high = h.atlas;
-    while low < high {
-        let mid = low + (high - low) / 2;
-        let a = entry_address(entries, mid);
-        if a == va {
-            return Entry::At(mid);
-        }
-        if a < va {
-            low = mid + 1;
-        } else {
-            high = mid;
-        }
-    }
-    Entry::Nothing
+    search(from(rec, entries_at(h)), h.atlas, va)
 }
 
 // Whether a literal stands for what was found.
-pub fn is_literal(rec: &[u8], h: Header, found: Entry) -> bool
+pub fn is_literal(rec: &[u8], h: Header, found: Found) -> bool
     ensures { λ r. ⌜ r ≡ literalAt h (now (rec .entry)) found ⌝ }
 {
     match found {
-        Entry::At(k) => entry_kind(from(rec, pairs_at(h)), k) != 3,
-        Entry::Nothing => false,
+        Found::At(k) => entry_kind(from(rec, pairs_at(h)), k) != 3,
+        Found::Nothing => false,
     }
 }
 
@@ -97,7 +77,7 @@ pub fn push_found(
     words: &[u8],
     rec: &[u8],
     h: Header,
-    found: Entry,
+    found: Found,
     va: u64,
     w: u8,
 ) -> Pen
@@ -106,8 +86,8 @@ pub fn push_found(
         ≡ push (sheet (now (text .entry)) (now (ends .entry)) (now (kinds .entry)) pen) (nameOrAt h (now (rec .entry)) found va w) ⌝ }
 {
     match found {
-        Entry::At(k) => push_text(text, ends, kinds, pen, rec, h, k),
-        Entry::Nothing => push_prefixed(text, ends, kinds, pen, words, w, va),
+        Found::At(k) => push_text(text, ends, kinds, pen, rec, h, k),
+        Found::Nothing => push_prefixed(text, ends, kinds, pen, words, w, va),
     }
 }
 

@@ -19,7 +19,8 @@ use Rattle.structure.specs.Plan.{Line}
 use Rattle.line.specs.Lines.{lineIn}
 use Rattle.line.specs.Print.{maskAfter, printed}
 use Rattle.pseudo.specs.Listed.{lineAddress, lineMark}
-use Rattle.record.specs.AskedLaws.{both-yes, passed}
+use Rattle.lists.specs.Every.{both-yes}
+use Rattle.record.specs.AskedLaws.{passed}
 use Rattle.pseudo.specs.Called.{roomNo, roomsOf, sizesOf, over, Stands, Leaves, PlanListed}
 use Rattle.pseudo.specs.declared.rooms.Sizes.{Sizes}
 use Rattle.pseudo.specs.declared.rooms.Rooms.{Rooms}

@@ -16,7 +16,7 @@ use Rattle.record.specs.declared.asked.Asked.the-variants as case
 use Rattle.record.specs.Header.{headerOf, limitsOk}
 use Rattle.record.specs.Asked.{answerOf, firstNo, orElse}
 use Rattle.structure.specs.Plan.{Line, codeOf}
-use Rattle.structure.specs.Flow.{firstIn}
+use Rattle.structure.specs.Graph.{firstIn}
 use Rattle.structure.specs.Reads.{indentIn}
 use Rattle.structure.specs.Demand.{Shallow}
 use Rattle.structure.specs.Stored.{Stored}

@@ -16,7 +16,7 @@ use Rattle.tokens.specs.Sheet.{firstPen}
 use Rattle.tokens.specs.Page.{Page, page, linesOn}
 use Rattle.tokens.specs.Listing.{Listing, listing}
 use Rattle.tokens.specs.ListingLaws.{Listed, listed, lines-length, kinds-as-ends}
-use Rattle.record.specs.AskedLaws.{both-yes}
+use Rattle.lists.specs.Every.{both-yes}
 use Rattle.flow.specs.Laws.{put-read}
 use Rattle.line.specs.Bounds.{Fits}
 use Rattle.pseudo.specs.Called.{sizesOf, Stands}

@@ -8,7 +8,7 @@ use Rattle.record.specs.declared.header.Header.{Header}
 use Rattle.record.specs.Layout.{startsOf, addressesOf}
 use Rattle.record.specs.Blocks.{startAt}
 use Rattle.record.specs.Body.{addressAt}
-use Rattle.structure.specs.Flow.{firstIn}
+use Rattle.structure.specs.Graph.{firstIn}
 use Rattle.structure.specs.Plan.{What, Line}
 use Rattle.structure.specs.Plan.What.{label-line, do-line, open-line, if-goto, while-line, close-line, goto-line, tail-call, insn-line}
 use Rattle.flow.specs.Rows.{blockRows}

@@ -7,16 +7,12 @@ use Prim.Native.Nat.{ℕ, zero, suc, _≤_}
 use native.Mathlib.Omega.{arith}
 use borrow.Author.Tests.{leb-true}
 use lib.Dec.{leb}
+use Rattle.lists.specs.Every.{both-yes}
 use Rattle.record.specs.declared.header.Header.{Header}
 use Rattle.record.specs.Header.{headerOf, headerFits, fieldsOk, limitsOk}
 use Rattle.record.specs.Layout.{lengthOk, marksOf}
 use Rattle.record.specs.Blocks.{marksOk}
 use Rattle.record.specs.Asked.{ask, orElse, sizesNo, marksAsked, startsAsked, edgeKindsAsked, bodiesAsked, atlasAsked, spansAsked, blocksNo, contentsNo, rangeNo, firstNo}
-
-pub both-yes : (a b : Bool) → (a && b) ≡ true → (a ≡ true) × (b ≡ true)
-both-yes true true h = (refl, refl)
-both-yes true false h = (refl, h)
-both-yes false b h = let z : false ≡ true = h in (z, cc)
 
 pub later : (a b : ℕ) → orElse a b ≡ 0 → (a ≡ 0) × (b ≡ 0)
 later zero b h = (refl, h)

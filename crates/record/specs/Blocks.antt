@@ -53,7 +53,7 @@ startIsNew starts k = allBelow (differ starts k) k
 unfoldable pub startsDiffer : List ℕ → ℕ → Bool
 startsDiffer starts B = allBelow (startIsNew starts) B
 
--- "Blocks stand in listing order", mostly by their addresses: block k starts above the block before it
+-- block k starts above the block before it. "Blocks stand in listing order", which may be any order of their addresses
 abbrev pub startRises : List ℕ → ℕ → Bool
 startRises starts k = eqb k 0 || ltb (startAt starts (k - 1)) (startAt starts k)
 

@@ -4,7 +4,8 @@ use Prim.Native.Nat.{ℕ, _+_, _<_, _≤_}
 use mathlib.Core.Path.{_≡_}
 use native.Mathlib.Decide.{ℕ-discrete, decLt}
 use native.Mathlib.Omega.{arith}
-use Rattle.record.specs.Rising.{Rises, rise}
+use Rattle.record.specs.Search.{Rises}
+use Rattle.record.specs.Rising.{rise}
 
 -- the numbers below `low` are smaller than x, those from `high` on greater
 pub record Between (f : ℕ → ℕ) (n x low high : ℕ) : Type 0 where

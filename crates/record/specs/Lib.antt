@@ -6,5 +6,7 @@ pub mod Atlas
 pub mod Asked
 pub mod Running
 pub mod AskedLaws
+pub mod Search
+pub mod SearchLaws
 pub mod Rising
 pub mod Halving

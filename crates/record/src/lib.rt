@@ -5,3 +5,4 @@ pub mod blocks;
 pub mod body;
 pub mod header;
 pub mod layout;
+pub mod search;

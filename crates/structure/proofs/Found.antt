@@ -8,16 +8,16 @@ use native.Mathlib.Decide.{decLe}
 use native.Mathlib.Omega.{arith}
 use Rattle.lists.specs.Choice.{anyBelow, pick}
 use Rattle.lists.specs.Below.{any-found, any-goes-on}
-use Rattle.structure.specs.Flow.{firstEdgeIn, edgesIn, hasEdge}
-use Rattle.structure.specs.Shape.{lastFrom}
-use Rattle.structure.specs.declared.shape.Found.the-variants.{At, Nothing}
+use Rattle.structure.specs.Graph.{firstEdgeIn, edgesIn, hasEdge}
+use Rattle.record.specs.Search.{lastFrom}
+use Rattle.record.specs.declared.search.Found.the-variants.{At, Nothing}
 
-module _ (blocks edges : List ℕ) (p : ℕ → Bool) (k first n m : ℕ) (f : first ≡ firstEdgeIn blocks k) (h : n ≡ edgesIn blocks k) where
-  pub edge-found : m < n → p (first + m) ≡ true → true ≡ hasEdge blocks edges p k
+module _ (blocks : List ℕ) (p : ℕ → Bool) (k first n m : ℕ) (f : first ≡ firstEdgeIn blocks k) (h : n ≡ edgesIn blocks k) where
+  pub edge-found : m < n → p (first + m) ≡ true → true ≡ hasEdge blocks p k
   unfolding hasEdge
   edge-found lt e = sym (any-found (λ j. p (firstEdgeIn blocks k + j)) (edgesIn blocks k) m (omega arith) (rw f at e))
 
-  pub edge-none : m ≤ n → n ≤ m → anyBelow (λ j. p (first + j)) m ≡ false → false ≡ hasEdge blocks edges p k
+  pub edge-none : m ≤ n → n ≤ m → anyBelow (λ j. p (first + j)) m ≡ false → false ≡ hasEdge blocks p k
   unfolding hasEdge
   edge-none le ge e =
       let s : m ≡ edgesIn blocks k = omega arith in
@@ -35,18 +35,6 @@ module _ (q : ℕ → Bool) (from k : ℕ) (after : from ≤ k) where
   place-goes-on h e =
       let s : k + 1 - from ≡ k - from + 1 = omega arith in
       ap (anyBelow (λ m. q (from + m))) s ∙ any-goes-on (λ m. q (from + m)) (k - from) h (ap q here ∙ e)
-
--- the search for the last place, at one place less
-pub last-turn : (p : ℕ → Bool) (i j : ℕ) → i < j → lastFrom p i (j - i) ≡ pick (p (j - 1)) (At (j - 1)) (lastFrom p i (j - 1 - i))
-unfolding lastFrom
-last-turn p i j h =
-    let s : j - i ≡ suc (j - 1 - i) = omega arith in
-    let t : i + (j - 1 - i) ≡ j - 1 = omega arith in
-    ap (lastFrom p i) s ∙ ap (λ (x : ℕ). pick (p x) (At x) (lastFrom p i (j - 1 - i))) t
-
-pub last-over : (p : ℕ → Bool) (i j : ℕ) → j ≤ i → lastFrom p i (j - i) ≡ Nothing
-unfolding lastFrom
-last-over p i j h = let s : j - i ≡ 0 = omega arith in rw s
 
 -- a last place that does not pass
 last-less : (p : ℕ → Bool) (i n : ℕ) → (i ≤ n → p n ≡ false) → lastFrom p i (n - i) ≡ lastFrom p i (suc n - i)

@@ -1,4 +1,3 @@
-pub mod Ended
 pub mod Found
 pub mod Sourced
 pub mod Stands

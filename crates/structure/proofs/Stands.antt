@@ -6,10 +6,11 @@ use mathlib.Core.List.{List}
 use Prim.Native.Nat.{ℕ, _+_, _-_}
 use lib.Dec.{ltb}
 use Rattle.lists.specs.Choice.{pick}
-use Rattle.structure.specs.Flow.{closesLoop, singleEntry}
-use Rattle.structure.specs.Shape.{lastFrom, lastLoop, loopAt, regionAt, shapeAt}
-use Rattle.structure.specs.declared.shape.Found.{Found}
-use Rattle.structure.specs.declared.shape.Found.the-variants.{At, Nothing}
+use Rattle.structure.specs.Graph.{closesLoop, singleEntry}
+use Rattle.record.specs.Search.{lastFrom}
+use Rattle.structure.specs.Shape.{lastLoop, loopAt, regionAt, shapeAt}
+use Rattle.record.specs.declared.search.Found.{Found}
+use Rattle.record.specs.declared.search.Found.the-variants.{At, Nothing}
 use Rattle.structure.specs.declared.shape.Shape.{Shape}
 use Rattle.structure.specs.declared.shape.Shape.the-variants.{Loop}
 

@@ -7,7 +7,7 @@ use Prim.Native.Nat.{ℕ, zero, suc, _+_, _-_, _≤_}
 use native.Mathlib.Numerals.{add-one}
 use native.Mathlib.Omega.{arith}
 use lib.ListN.{length, replicate, length-append, length-replicate}
-use Rattle.structure.specs.Flow.{firstIn, countIn, endingIn, lastIn, labelWanted}
+use Rattle.structure.specs.Graph.{firstIn, countIn, endingIn, lastIn, labelWanted}
 use Rattle.structure.specs.Plan.{Line, Go, line, labelIf, plainLabel, bodyLines, plainLines, flatBlock, flatLines, testBlock, loopLines, regionLines, step, planOf}
 use Rattle.structure.specs.Plan.What.{open-line, close-line}
 use Rattle.structure.specs.Demand.{Context, heard, heardIn, counted, contextsStep, contexts}

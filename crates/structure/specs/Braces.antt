@@ -5,7 +5,7 @@ use mathlib.Core.Bool.{Bool, true}
 use mathlib.Core.List.{List, [], _∷_, _++_, append-nil, append-assoc}
 use Prim.Native.Nat.{ℕ, _+_, _-_, _≤_, _<_}
 use native.Mathlib.Omega.{arith}
-use Rattle.structure.specs.Flow.{firstIn, countIn, lastIn, labelWanted}
+use Rattle.structure.specs.Graph.{firstIn, countIn, lastIn, labelWanted}
 use Rattle.structure.specs.Plan.{What, Line, Go, line, labelIf, shownLines, bodyLines, plainLines, flatLines, testBlock, loopLines, step, planOf}
 use Rattle.structure.specs.Plan.What.{label-line, do-line, open-line, if-goto, while-line, close-line, goto-line, tail-call, insn-line}
 use Rattle.structure.specs.Demand.{Context, Brace, Nested, Shallow}

@@ -7,7 +7,7 @@ use Prim.Native.Nat.{ℕ, suc, _+_, _-_, _*_, _<_}
 use native.Mathlib.Numerals.{add-one}
 use native.Mathlib.Omega.{arith}
 use Rattle.lists.specs.Choice.{pick}
-use Rattle.structure.specs.Flow.{isShown}
+use Rattle.structure.specs.Graph.{isShown}
 use Rattle.structure.specs.Plan.{Line, line, codeOf, shownLines}
 use Rattle.structure.specs.Plan.What.{insn-line}
 use Rattle.structure.specs.Stored.{Splits}

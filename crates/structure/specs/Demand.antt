@@ -6,7 +6,7 @@ use mathlib.Core.Path.{_≡_}
 use lib.Dec.{ltb, eqb}
 use lib.ListN.{length, replicate}
 use Rattle.lists.specs.Choice.{pick, sumBelow}
-use Rattle.structure.specs.Flow.{firstIn, countIn, endingIn, branchTo, lastIn, isShown}
+use Rattle.structure.specs.Graph.{firstIn, countIn, endingIn, branchTo, lastIn, isShown}
 use Rattle.structure.specs.Shape.{shapeAt}
 use Rattle.structure.specs.Plan.{What, Line, planOf}
 use Rattle.structure.specs.Plan.What.{label-line, do-line, open-line, if-goto, while-line, close-line, goto-line, tail-call, insn-line}

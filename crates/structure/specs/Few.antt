@@ -10,7 +10,7 @@ use lib.Dec.{ltb, eqb}
 use lib.ListN.{getD, length, length-append}
 use borrow.Author.Tests.{eq-eqb}
 use Rattle.lists.specs.Choice.{pick, sumBelow}
-use Rattle.structure.specs.Flow.{firstIn, countIn, endingIn, branchTo, isBlock, lastIn, isShown, labelWanted}
+use Rattle.structure.specs.Graph.{firstIn, countIn, endingIn, branchTo, isBlock, lastIn, isShown, labelWanted}
 use Rattle.structure.specs.Plan.{Line, Go, line, labelIf, shownLines, bodyCount, closingLines, plainLines, flatBlock, flatLines, testBlock, loopLines, step, planOf}
 use Rattle.structure.specs.Plan.What.{if-goto, goto-line, tail-call}
 use Rattle.structure.specs.Demand.{Context, instructionsFrom}

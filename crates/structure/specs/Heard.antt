@@ -10,7 +10,7 @@ use lib.Dec.{ltb, eqb}
 use lib.ListN.{length}
 use borrow.Author.Tests.{eq-eqb, ne-eqb}
 use Rattle.lists.specs.Choice.{pick}
-use Rattle.structure.specs.Flow.{firstIn, countIn, endingIn, branchTo, isBlock, lastIn, isShown}
+use Rattle.structure.specs.Graph.{firstIn, countIn, endingIn, branchTo, isBlock, lastIn, isShown}
 use Rattle.structure.specs.Plan.{What, Line, line, shownLines, bodyCount, bodyLines, jumpLines, closingLines}
 use Rattle.structure.specs.Plan.What.{label-line, do-line, open-line, if-goto, while-line, close-line, goto-line, tail-call, insn-line}
 use Rattle.structure.specs.Demand.{Context, lastSilent, silent, heard, heardIn, count, counted}

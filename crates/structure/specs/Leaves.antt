@@ -7,7 +7,7 @@ use native.Mathlib.Nat.{le-refl}
 use native.Mathlib.Omega.{arith}
 use lib.Dec.{ltb, eqb}
 use Rattle.lists.specs.Choice.{pick}
-use Rattle.structure.specs.Flow.{firstIn, countIn, endingIn, branchTo, isBlock, lastIn, isShown, labelWanted}
+use Rattle.structure.specs.Graph.{firstIn, countIn, endingIn, branchTo, isBlock, lastIn, isShown, labelWanted}
 use Rattle.structure.specs.Plan.{What, Line, line, labelIf, plainLabel, shownLines, bodyCount, bodyLines, jumpLines, closingLines, plainLines, flatBlock, flatLines}
 use Rattle.structure.specs.Plan.What.{label-line, do-line, open-line, if-goto, while-line, close-line, goto-line, tail-call, insn-line}
 use Rattle.structure.specs.Within.{pick-both, labelled}

@@ -1,6 +1,5 @@
-pub mod Flow
+pub mod Graph
 pub mod Shape
-pub mod Ends
 pub mod Sources
 pub mod Plan
 pub mod Placed

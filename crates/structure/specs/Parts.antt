@@ -8,7 +8,7 @@ use native.Mathlib.Numerals.{add-one}
 use native.Mathlib.Omega.{arith}
 use lib.Dec.{ltb, eqb}
 use Rattle.lists.specs.Choice.{pick}
-use Rattle.structure.specs.Flow.{firstIn, countIn, endingIn, lastIn, labelWanted}
+use Rattle.structure.specs.Graph.{firstIn, countIn, endingIn, lastIn, labelWanted}
 use Rattle.structure.specs.Plan.{Line, Go, line, labelIf, plainLabel, bodyLines, shownLines, closingLines, plainLines, flatBlock, flatLines, testBlock, loopLines, regionLines}
 use Rattle.structure.specs.Plan.What.{do-line, open-line, if-goto, while-line, close-line}
 use Rattle.structure.specs.Within.{headLabelled}

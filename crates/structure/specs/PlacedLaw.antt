@@ -5,7 +5,7 @@ use mathlib.Core.List.{List, [], _∷_, _++_}
 use Prim.Native.Nat.{ℕ, _+_, _-_, _≤_, _<_, zero-le}
 use native.Mathlib.Nat.{le-refl}
 use native.Mathlib.Omega.{arith}
-use Rattle.structure.specs.Flow.{firstIn, countIn, lastIn, labelWanted}
+use Rattle.structure.specs.Graph.{firstIn, countIn, lastIn, labelWanted}
 use Rattle.structure.specs.Plan.{What, Line, Go, line, labelIf, shownLines, bodyLines, plainLines, flatLines, testBlock, loopLines, step, planOf}
 use Rattle.structure.specs.Plan.What.{open-line, while-line, close-line}
 use Rattle.structure.specs.Placed.{Placed}

@@ -5,7 +5,7 @@ use mathlib.Core.List.{List, [], _∷_, _++_, map}
 use mathlib.Core.Bool.{Bool, true, false, _&&_, _||_}
 use lib.Dec.{ltb, eqb}
 use Rattle.lists.specs.Choice.{pick}
-use Rattle.structure.specs.Flow.{firstIn, countIn, labelWanted, endingIn, branchTo, isBlock, lastIn, isShown, outsideJump}
+use Rattle.structure.specs.Graph.{firstIn, countIn, labelWanted, endingIn, branchTo, isBlock, lastIn, isShown, outsideJump}
 use Rattle.structure.specs.Shape.{shapeAt}
 use Rattle.structure.specs.declared.shape.Shape.{Shape}
 use Rattle.structure.specs.declared.shape.Shape.the-variants.{Loop, Region, Plain}

@@ -4,16 +4,12 @@ use mathlib.Core.List.{List}
 use mathlib.Core.Bool.{Bool, not, _&&_}
 use lib.Dec.{ltb, leb, eqb}
 use Rattle.lists.specs.Choice.{pick}
-use Rattle.structure.specs.Flow.{endingIn, branchTo, closesLoop, singleEntry, escapes}
-use Rattle.structure.specs.declared.shape.Found.{Found}
-use Rattle.structure.specs.declared.shape.Found.the-variants.{At, Nothing}
+use Rattle.record.specs.Search.{lastFrom}
+use Rattle.structure.specs.Graph.{endingIn, branchTo, closesLoop, singleEntry, escapes}
+use Rattle.record.specs.declared.search.Found.{Found}
+use Rattle.record.specs.declared.search.Found.the-variants.{At, Nothing}
 use Rattle.structure.specs.declared.shape.Shape.{Shape}
 use Rattle.structure.specs.declared.shape.Shape.the-variants.{Loop, Region, Plain}
-
--- the last of the n numbers from i on that passes the test
-unfoldable pub lastFrom : (ℕ → Bool) → ℕ → ℕ → Found
-lastFrom p i zero = Nothing
-lastFrom p i (suc n) = pick (p (i + n)) (At (i + n)) (lastFrom p i n)
 
 module _ (blocks edges starts targets : List ℕ) (B : ℕ) where
   -- "At place i the last j from i on, before the end, is sought whose block has a True edge to i's start .."

@@ -8,6 +8,7 @@ use native.Mathlib.Nat.{add-zero}
 use native.Mathlib.Omega.{arith}
 use lib.ListN.{length, set, length-append}
 use lib.Seq.{sets, length-sets}
+use Rattle.lists.specs.PutLaws.{sets-append}
 
 -- there is room for vs from `at` on, in numbers
 pub record Room (at : ℕ) (vs : List ℕ) : Type 0 where
@@ -16,11 +17,6 @@ pub record Room (at : ℕ) (vs : List ℕ) : Type 0 where
 pub record Stored (l : List ℕ) (at : ℕ) (vs : List ℕ) (r : ℕ) (l′ : List ℕ) : Type 0 where
   pub next : r ≡ at + length vs
   pub list : l′ ≡ sets l at vs
-
-pub sets-append : (l : List ℕ) (at : ℕ) (xs ys : List ℕ) → sets l at (xs ++ ys) ≡ sets (sets l at xs) (at + length xs) ys
-sets-append l at [] ys = rw add-zero
-sets-append l at (x ∷ xs) ys =
-    sets-append (set l at x) (suc at) xs ys ∙ ap (λ (k : ℕ). sets (sets (set l at x) (suc at) xs) k ys) (omega arith)
 
 pub stored-none : (l : List ℕ) (at : ℕ) → Stored l at [] at l
 stored-none l at = record { next = omega arith; list = refl }

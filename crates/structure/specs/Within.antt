@@ -9,10 +9,12 @@ use lib.Dec.{ltb, leb, eqb}
 use lib.ListN.{getD}
 use borrow.Author.Tests.{ltb-true, leb-true, eqb-true, eqb-false}
 use Rattle.lists.specs.Choice.{pick}
-use Rattle.structure.specs.Flow.{countIn, endingIn, branchTo, closesLoop, hasEdge, trueEdgeTo, singleEntry, escapes, labelWanted, outsideJump}
-use Rattle.structure.specs.Shape.{lastFrom, lastLoop, opensRegion, regionAt, loopAt, shapeAt}
-use Rattle.structure.specs.declared.shape.Found.{Found}
-use Rattle.structure.specs.declared.shape.Found.the-variants.{At, Nothing}
+use Rattle.lists.specs.Every.{both-yes}
+use Rattle.structure.specs.Graph.{countIn, endingIn, branchTo, closesLoop, hasEdge, trueEdgeTo, singleEntry, escapes, labelWanted, outsideJump}
+use Rattle.record.specs.Search.{lastFrom}
+use Rattle.structure.specs.Shape.{lastLoop, opensRegion, regionAt, loopAt, shapeAt}
+use Rattle.record.specs.declared.search.Found.{Found}
+use Rattle.record.specs.declared.search.Found.the-variants.{At, Nothing}
 use Rattle.structure.specs.declared.shape.Shape.{Shape}
 use Rattle.structure.specs.declared.shape.Shape.the-variants.{Loop, Region, Plain}
 
@@ -23,10 +25,6 @@ pick-both P false x y p q = q refl
 
 pub false-true : {A : Type 0} → false ≡ true → A
 false-true e = absurd (let z : _≡_ {A = ℕ} 0 1 = cc in omega arith)
-
-pub both-true : (a b : Bool) → (a && b) ≡ true → (a ≡ true) × (b ≡ true)
-both-true true b e = (refl, e)
-both-true false b e = false-true e
 
 -- a block that ends in any of the ways has an instruction
 ending-some : (blocks : List ℕ) (k : ℕ) → (endingIn blocks k ≡ 0 → ⊥) → 1 ≤ countIn blocks k
@@ -85,8 +83,8 @@ module _ (blocks : List ℕ) where
         let u = not (escapes blocks edges starts targets (i + 1) t t) in
         pick-both (Within i to) (p && q && r && s && u) (Region t) Plain
         (λ e.
-        let a = both-true (p && q) r (both-true (p && q && r) s (both-true (p && q && r && s) u e .0) .0) in
-        let b = both-true p q (a .0) in
+        let a = both-yes (p && q) r (both-yes (p && q && r) s (both-yes (p && q && r && s) u e .0) .0) in
+        let b = both-yes p q (a .0) in
         (ltb-true (i + 1) t (b .1), leb-true t to (a .1), eqb-true (endingIn blocks i) 2 (b .0)))
         (λ e. h)
 
@@ -95,7 +93,7 @@ module _ (blocks : List ℕ) where
     loop-within i to Nothing h ok = region-within i to h
     loop-within i to (At j) h ok =
         pick-both (Within i to) (ltb i j && singleEntry blocks edges B i (j + 1)) (Loop j) (regionAt blocks edges starts targets B i to)
-        (λ e. (ltb-true i j (both-true (ltb i j) _ e .0), omega arith, condition-some blocks j (both-true (hasEdge blocks edges (trueEdgeTo blocks edges i) j) _ (ok .2) .1)))
+        (λ e. (ltb-true i j (both-yes (ltb i j) _ e .0), omega arith, condition-some blocks j (both-yes (hasEdge blocks (trueEdgeTo edges i) j) _ (ok .2) .1)))
         (λ e. region-within i to h)
 
     pub shape-within : (i to : ℕ) → i < to → Within i to (shapeAt blocks edges starts targets B i to)

@@ -1,36 +1,47 @@
 // The lines of one block: a plain one, the head of an if-region, and those of a do-body.
-use crate::flow::Place;
-use crate::flow::branch_to;
-use crate::flow::count_in;
-use crate::flow::ending_in;
-use crate::flow::first_in;
-use crate::flow::label_wanted;
-use crate::flow::last_in;
+use crate::graph::branch_to;
+use crate::graph::count_in;
+use crate::graph::ending_in;
+use crate::graph::first_in;
+use crate::graph::label_wanted;
+use crate::graph::last_in;
 use crate::lines::label;
 use crate::lines::one_less;
 use crate::lines::put_line;
 use crate::lines::shown_lines;
 use crate::tests::has_outside_jump_to;
+use record::blocks::Place;
 ghost use mathlib.Core.Bool.{_&&_};
 ghost use mathlib.Core.Path.{_≡_};
 ghost use Prim.Native.Nat.{_+_, _-_, _<_, _≤_};
 ghost use lib.Dec.{eqb, ltb};
-ghost use Rattle.structure.specs.Flow.{branchTo};
+ghost use Rattle.structure.specs.Graph.{branchTo};
 ghost use Rattle.structure.specs.Plan.{bodyCount, bodyLines, jumpLines, closingLines, plainLines};
 ghost use Rattle.structure.specs.Within.{labelled};
 ghost use Rattle.structure.specs.Codes.{codes};
 ghost use Rattle.structure.specs.Parts.{headLines};
+ghost use Rattle.structure.specs.Sources.{Sources};
 ghost use Rattle.structure.specs.Stored.{Stored, Room};
 
 // Whether the block at place i of a range has a label.
-fn is_labelled(blocks: &[u16], edges: &[u16], count: u16, from: Place, i: Place, to: Place) -> bool
+fn is_labelled(
+    blocks: &[u16],
+    edges: &[u16],
+    firsts: &[u16],
+    lasts: &[u16],
+    count: u16,
+    from: Place,
+    i: Place,
+    to: Place,
+) -> bool
+    requires { ⌜ Sources (now blocks) (now edges) count (now firsts) (now lasts) ⌝ }
     ensures { λ r. ⌜ r ≡ labelled (now (blocks .entry)) (now (edges .entry)) count (from .0) (i .0) (to .0) ⌝ }
 {
     if label_wanted(blocks, i) {
         if from.0 < i.0 {
             return true;
         }
-        return has_outside_jump_to(blocks, edges, count, from, to, i);
+        return has_outside_jump_to(blocks, edges, firsts, lasts, count, from, to, i);
     }
     false
 }
@@ -112,6 +123,8 @@ fn closing_line(
 pub fn emit_plain(
     blocks: &[u16],
     edges: &[u16],
+    firsts: &[u16],
+    lasts: &[u16],
     shown: &[u8],
     count: u16,
     from: Place,
@@ -121,10 +134,10 @@ pub fn emit_plain(
     out: &mut [u64],
     at: usize,
 ) -> usize
-    requires { ⌜ (indent < 131072) × Room at (codes (plainLines (now blocks) (now edges) (now shown) count (from .0) (i .0) (to .0) indent)) ⌝ }
+    requires { ⌜ (indent < 131072) × Room at (codes (plainLines (now blocks) (now edges) (now shown) count (from .0) (i .0) (to .0) indent)) × Sources (now blocks) (now edges) count (now firsts) (now lasts) ⌝ }
     ensures { λ r. ⌜ Stored (now (out .entry)) at (codes (plainLines (now (blocks .entry)) (now (edges .entry)) (now (shown .entry)) count (from .0) (i .0) (to .0) indent)) r (now (out .exit)) ⌝ }
 {
-    let wanted = is_labelled(blocks, edges, count, from, i, to);
+    let wanted = is_labelled(blocks, edges, firsts, lasts, count, from, i, to);
     let n = label(out, at, wanted, i, indent);
     let m = body_lines(blocks, shown, i, indent, out, n);
     closing_line(blocks, i, to, indent, out, m)
@@ -134,6 +147,8 @@ pub fn emit_plain(
 pub fn emit_head(
     blocks: &[u16],
     edges: &[u16],
+    firsts: &[u16],
+    lasts: &[u16],
     shown: &[u8],
     count: u16,
     from: Place,
@@ -143,10 +158,10 @@ pub fn emit_head(
     out: &mut [u64],
     at: usize,
 ) -> usize
-    requires { ⌜ (indent < 131072) × Room at (codes (headLines (now blocks) (now edges) (now shown) count (from .0) (i .0) (to .0) indent)) ⌝ }
+    requires { ⌜ (indent < 131072) × Room at (codes (headLines (now blocks) (now edges) (now shown) count (from .0) (i .0) (to .0) indent)) × Sources (now blocks) (now edges) count (now firsts) (now lasts) ⌝ }
     ensures { λ r. ⌜ Stored (now (out .entry)) at (codes (headLines (now (blocks .entry)) (now (edges .entry)) (now (shown .entry)) count (from .0) (i .0) (to .0) indent)) r (now (out .exit)) ⌝ }
 {
-    let wanted = is_labelled(blocks, edges, count, from, i, to);
+    let wanted = is_labelled(blocks, edges, firsts, lasts, count, from, i, to);
     let n = label(out, at, wanted, i, indent);
     let m = body_lines(blocks, shown, i, indent, out, n);
     put_line(out, m, 2, i, last_in(blocks, i), indent)

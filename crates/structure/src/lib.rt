@@ -2,8 +2,7 @@
 pub mod blocks;
 pub mod codes;
 pub mod edges;
-pub mod ends;
-pub mod flow;
+pub mod graph;
 pub mod lines;
 pub mod loops;
 pub mod plan;

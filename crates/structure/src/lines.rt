@@ -1,7 +1,7 @@
 // Lines of a plan, one number each, stored into a lent list from an index on. Each writer answers the index after its lines.
-use crate::flow::Place;
-use crate::flow::is_shown;
+use crate::graph::is_shown;
 use lists::stores::store_u64;
+use record::blocks::Place;
 ghost use mathlib.Core.List.{[], _∷_};
 ghost use mathlib.Core.Path.{_≡_};
 ghost use Prim.Native.Nat.{_+_, _-_, _<_, _≤_};

@@ -1,22 +1,23 @@
 // The lines of a do-loop: its label, its do-line, its body, which is flat, and its while-line.
 use crate::blocks::body_lines;
-use crate::flow::Place;
-use crate::flow::count_in;
-use crate::flow::ending_in;
-use crate::flow::first_in;
-use crate::flow::label_wanted;
-use crate::flow::last_in;
+use crate::graph::count_in;
+use crate::graph::ending_in;
+use crate::graph::first_in;
+use crate::graph::label_wanted;
+use crate::graph::last_in;
 use crate::lines::label;
 use crate::lines::one_less;
 use crate::lines::put_line;
 use crate::lines::shown_lines;
 use crate::tests::has_outside_jump_to;
+use record::blocks::Place;
 ghost use mathlib.Core.Path.{_≡_};
 ghost use Prim.Native.Nat.{_+_, _-_, _<_, _≤_};
 ghost use Rattle.structure.specs.Plan.{flatBlock, flatLines, testBlock, loopLines};
 ghost use Rattle.structure.specs.Within.{headLabelled};
 ghost use Rattle.structure.specs.Codes.{codes};
 ghost use Rattle.structure.specs.Parts.{branchLine, doLines};
+ghost use Rattle.structure.specs.Sources.{Sources};
 ghost use Rattle.structure.specs.Stored.{Stored, Room};
 
 // The line of a closing conditional branch, if the block ends with one.
@@ -110,12 +111,20 @@ fn emit_do(
 }
 
 // Whether a do-head has a label.
-fn head_labelled(blocks: &[u16], edges: &[u16], count: u16, i: Place, j: Place) -> bool
-    requires { ⌜ j .0 < 65535 ⌝ }
+fn head_labelled(
+    blocks: &[u16],
+    edges: &[u16],
+    firsts: &[u16],
+    lasts: &[u16],
+    count: u16,
+    i: Place,
+    j: Place,
+) -> bool
+    requires { ⌜ (j .0 < 65535) × Sources (now blocks) (now edges) count (now firsts) (now lasts) ⌝ }
     ensures { λ r. ⌜ r ≡ headLabelled (now (blocks .entry)) (now (edges .entry)) count (i .0) (j .0) ⌝ }
 {
     if label_wanted(blocks, i) {
-        return has_outside_jump_to(blocks, edges, count, i, Place(j.0 + 1), i);
+        return has_outside_jump_to(blocks, edges, firsts, lasts, count, i, Place(j.0 + 1), i);
     }
     false
 }
@@ -124,6 +133,8 @@ fn head_labelled(blocks: &[u16], edges: &[u16], count: u16, i: Place, j: Place) 
 pub fn emit_loop(
     blocks: &[u16],
     edges: &[u16],
+    firsts: &[u16],
+    lasts: &[u16],
     shown: &[u8],
     count: u16,
     i: Place,
@@ -132,10 +143,10 @@ pub fn emit_loop(
     out: &mut [u64],
     at: usize,
 ) -> usize
-    requires { ⌜ (j .0 < 65535) × (indent + 1 < 131072) × Room at (codes (loopLines (now blocks) (now edges) (now shown) count (i .0) (j .0) indent)) ⌝ }
+    requires { ⌜ (j .0 < 65535) × (indent + 1 < 131072) × Room at (codes (loopLines (now blocks) (now edges) (now shown) count (i .0) (j .0) indent)) × Sources (now blocks) (now edges) count (now firsts) (now lasts) ⌝ }
     ensures { λ r. ⌜ Stored (now (out .entry)) at (codes (loopLines (now (blocks .entry)) (now (edges .entry)) (now (shown .entry)) count (i .0) (j .0) indent)) r (now (out .exit)) ⌝ }
 {
-    let wanted = head_labelled(blocks, edges, count, i, j);
+    let wanted = head_labelled(blocks, edges, firsts, lasts, count, i, j);
     let n = label(out, at, wanted, i, indent);
     let m = put_line(out, n, 1, i, 0, indent);
     emit_do(blocks, shown, i, j, indent, out, m)

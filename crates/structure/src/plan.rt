@@ -1,17 +1,15 @@
 // The plan of a range: the range writer and the writer of one if-region call each other, on ever shorter spans.
 use crate::blocks::emit_head;
 use crate::blocks::emit_plain;
-use crate::ends::loop_ends;
-use crate::flow::Place;
 use crate::lines::put_line;
 use crate::loops::emit_loop;
 use crate::shape::Shape;
 use crate::shape::shape_at;
 use crate::sources::first_sources;
 use crate::sources::last_sources;
+use record::blocks::Place;
 ghost use Prim.Native.Nat.{_+_, _-_, _<_, _≤_};
-ghost use Rattle.structure.specs.Ends.{Ends};
-ghost use Rattle.structure.specs.Sources.{Sources};
+ghost use Rattle.structure.specs.Sources.{Ends, Sources};
 ghost use Rattle.structure.specs.Plan.{regionLines, rangeLines, planCodes};
 ghost use Rattle.structure.specs.Codes.{codes};
 ghost use Rattle.structure.specs.Stored.{Stored, Room};
@@ -59,6 +57,8 @@ fn emit_range(
                 n = emit_loop(
                     blocks,
                     edges,
+                    firsts,
+                    lasts,
                     shown,
                     count,
                     Place(i),
@@ -94,6 +94,8 @@ fn emit_range(
                 n = emit_plain(
                     blocks,
                     edges,
+                    firsts,
+                    lasts,
                     shown,
                     count,
                     from,
@@ -135,7 +137,20 @@ fn emit_region(
     requires { ⌜ Room at (codes (regionLines (now blocks) (now edges) (now shown) count (rangeLines (now blocks) (now edges) (now shown) (now starts) (now targets) count) (from .0) (i .0) (t .0) (to .0) indent)) ⌝ }
     ensures { λ r. ⌜ Stored (now (out .entry)) at (codes (regionLines (now (blocks .entry)) (now (edges .entry)) (now (shown .entry)) count (rangeLines (now (blocks .entry)) (now (edges .entry)) (now (shown .entry)) (now (starts .entry)) (now (targets .entry)) count) (from .0) (i .0) (t .0) (to .0) indent)) r (now (out .exit)) ⌝ }
 {
-    let n = emit_head(blocks, edges, shown, count, from, i, to, indent, out, at);
+    let n = emit_head(
+        blocks,
+        edges,
+        firsts,
+        lasts,
+        shown,
+        count,
+        from,
+        i,
+        to,
+        indent,
+        out,
+        at,
+    );
     let m = emit_range(
         blocks,
         edges,
@@ -173,13 +188,13 @@ pub fn plan(
 {
     // Entries for more places than a record has blocks; of a place beyond them nothing is known before its search.
     let mut table = [0u16; 256];
-    loop_ends(blocks, edges, Place(from), Place(to), &mut table);
+    last_sources(blocks, edges, true, from, to, &mut table);
     let ends: &[u16] = &table;
     let mut low = [65535u16; 256];
     first_sources(blocks, edges, count, &mut low);
     let firsts: &[u16] = &low;
     let mut high = [0u16; 256];
-    last_sources(blocks, edges, count, &mut high);
+    last_sources(blocks, edges, false, 0, count, &mut high);
     let lasts: &[u16] = &high;
     emit_range(
         blocks,

@@ -1,25 +1,20 @@
 // What stands at a place of a range: a do-loop, an if-region, or a plain block.
-use crate::ends::search_end;
-use crate::flow::Place;
-use crate::flow::branch_to;
-use crate::flow::ending_in;
+use crate::graph::branch_to;
+use crate::graph::ending_in;
+use crate::sources::search_end;
 use crate::tests::closes_loop;
 use crate::tests::region_escapes;
-use crate::tests::sole_entry;
+use crate::tests::single_entry;
+use record::blocks::Place;
+use record::search::Found;
 ghost use mathlib.Core.Bool.{_&&_, not};
 ghost use mathlib.Core.Path.{_≡_};
 ghost use Prim.Native.Nat.{_+_, _-_, _<_};
 ghost use lib.Dec.{ltb};
-ghost use Rattle.structure.specs.Flow.{closesLoop, singleEntry, escapes};
-ghost use Rattle.structure.specs.Ends.{Ends};
-ghost use Rattle.structure.specs.Sources.{Sources};
-ghost use Rattle.structure.specs.Shape.{lastFrom, opensRegion, regionAt, shapeAt};
-
-// A place that a search found.
-pub enum Found {
-    At(u16),
-    Nothing,
-}
+ghost use Rattle.structure.specs.Graph.{closesLoop, singleEntry, escapes};
+ghost use Rattle.structure.specs.Sources.{Ends, Sources};
+ghost use Rattle.record.specs.Search.{lastFrom};
+ghost use Rattle.structure.specs.Shape.{opensRegion, regionAt, shapeAt};
 
 // A do-loop up to the block at a place, an if-region up to a place, or a plain block.
 pub enum Shape {
@@ -58,7 +53,7 @@ fn is_loop(
     ensures { λ r. ⌜ r ≡ (ltb (i .0) (j .0) && singleEntry (now (blocks .entry)) (now (edges .entry)) count (i .0) (j .0 + 1)) ⌝ }
 {
     if i.0 < j.0 {
-        return sole_entry(blocks, edges, firsts, lasts, count, i, Place(j.0 + 1));
+        return single_entry(blocks, edges, firsts, lasts, count, i, Place(j.0 + 1));
     }
     false
 }
@@ -78,7 +73,7 @@ fn is_region(
     requires { ⌜ Sources (now blocks) (now edges) count (now firsts) (now lasts) ⌝ }
     ensures { λ r. ⌜ r ≡ (singleEntry (now (blocks .entry)) (now (edges .entry)) count (from .0) (t .0) && not (escapes (now (blocks .entry)) (now (edges .entry)) (now (starts .entry)) (now (targets .entry)) (from .0) (t .0) (t .0))) ⌝ }
 {
-    if sole_entry(blocks, edges, firsts, lasts, count, from, t) {
+    if single_entry(blocks, edges, firsts, lasts, count, from, t) {
         return !region_escapes(blocks, edges, starts, targets, from, t, t);
     }
     false

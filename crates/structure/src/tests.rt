@@ -1,54 +1,73 @@
 // The four edge tests: does a block close a loop, is a part of the order entered only at its first place, does a block outside
 // jump to a place, does a region escape. Each reads edges in record order and stops at the first that decides.
-use crate::edges::has_entering_edge;
-use crate::edges::has_jump_to;
+use crate::edges::Wanted;
+use crate::edges::has_edge;
 use crate::edges::has_leaving_edge;
-use crate::edges::has_true_edge;
-use crate::flow::Place;
-use crate::flow::has_condition;
-use crate::flow::is_outside;
-use crate::sources::is_sheltered;
+use crate::graph::has_condition;
+use crate::graph::is_outside;
+use crate::sources::has_exposed;
+use crate::sources::search_end;
+use crate::sources::search_start;
+use record::blocks::Place;
 ghost use mathlib.Core.Bool.{_&&_};
 ghost use mathlib.Core.Path.{_≡_};
-ghost use Rattle.structure.specs.Flow.{hasEdge, closesLoop, outside, enters, singleEntry, jumpTo, outsideJump, escapes};
+ghost use Prim.Native.Nat.{_+_, _-_};
+ghost use Rattle.lists.specs.Choice.{anyBelow};
+ghost use Rattle.structure.specs.Graph.{hasEdge, passes, closesLoop, outside, singleEntry, outsideJump, escapes};
 ghost use Rattle.structure.specs.Sources.{Sources};
 
 // Block j has a True edge to place i, and its last instruction has a condition.
 pub fn closes_loop(blocks: &[u16], edges: &[u16], i: Place, j: Place) -> bool
     ensures { λ r. ⌜ r ≡ closesLoop (now (blocks .entry)) (now (edges .entry)) (i .0) (j .0) ⌝ }
 {
-    if has_true_edge(blocks, edges, i, j) {
-        return has_condition(blocks, j);
+    if has_condition(blocks, j) {
+        return has_edge(blocks, edges, Wanted::TrueTo(i), j);
     }
     false
 }
 
-// Block k lies outside and has an edge to an inside place other than the first.
-fn enters_from(blocks: &[u16], edges: &[u16], from: Place, to: Place, k: Place) -> bool
-    ensures { λ r. ⌜ r ≡ (outside (now (blocks .entry)) (now (edges .entry)) (from .0) (to .0) (k .0) && hasEdge (now (blocks .entry)) (now (edges .entry)) (enters (now (blocks .entry)) (now (edges .entry)) (from .0) (to .0)) (k .0)) ⌝ }
+// Block k lies outside and has a wanted edge.
+fn comes_from(
+    blocks: &[u16],
+    edges: &[u16],
+    from: Place,
+    to: Place,
+    wanted: Wanted,
+    k: Place,
+) -> bool
+    ensures { λ r. ⌜ r ≡ (outside (from .0) (to .0) (k .0) && hasEdge (now (blocks .entry)) (passes (now (edges .entry)) wanted) (k .0)) ⌝ }
 {
     if is_outside(from, to, k) {
-        return has_entering_edge(blocks, edges, from, to, k);
+        return has_edge(blocks, edges, wanted, k);
     }
     false
 }
 
-// No block outside the places from `from` up to `to` enters them other than at the first.
-pub fn single_entry(blocks: &[u16], edges: &[u16], count: u16, from: Place, to: Place) -> bool
-    ensures { λ r. ⌜ r ≡ singleEntry (now (blocks .entry)) (now (edges .entry)) count (from .0) (to .0) ⌝ }
+// Of the blocks from `low` up to `high`, one outside the places from `from` up to `to` has a wanted edge.
+fn has_outside_edge(
+    blocks: &[u16],
+    edges: &[u16],
+    low: u16,
+    high: u16,
+    from: Place,
+    to: Place,
+    wanted: Wanted,
+) -> bool
+    ensures { λ r. ⌜ r ≡ anyBelow (λ m. outside (from .0) (to .0) (low + m) && hasEdge (now (blocks .entry)) (passes (now (edges .entry)) wanted) (low + m)) (high - low) ⌝ }
 {
-    let mut k: u16 = 0;
-    while k < count {
-        if enters_from(blocks, edges, from, to, Place(k)) {
-            return false;
+    let mut k = low;
+    while k < high {
+        if comes_from(blocks, edges, from, to, wanted, Place(k)) {
+            return true;
         }
         k += 1;
     }
-    true
+    false
 }
 
-// The same, without reading a block where the lists of sources tell that no edge comes from outside.
-pub fn sole_entry(
+// No block outside the places from `from` up to `to` enters them other than at the first. The lists of sources tell; blocks are read
+// for places beyond the lists.
+pub fn single_entry(
     blocks: &[u16],
     edges: &[u16],
     firsts: &[u16],
@@ -60,41 +79,30 @@ pub fn sole_entry(
     requires { ⌜ Sources (now blocks) (now edges) count (now firsts) (now lasts) ⌝ }
     ensures { λ r. ⌜ r ≡ singleEntry (now (blocks .entry)) (now (edges .entry)) count (from .0) (to .0) ⌝ }
 {
-    if is_sheltered(firsts, lasts, from, to) {
-        return true;
+    let end = to.0 as usize;
+    if (end <= firsts.len()) & (end <= lasts.len()) {
+        return !has_exposed(firsts, lasts, from, to);
     }
-    single_entry(blocks, edges, count, from, to)
+    !has_outside_edge(blocks, edges, 0, count, from, to, Wanted::Between(from, to))
 }
 
-// Block k lies outside and has an edge to place i that is not of kind Fall.
-fn jumps_from(blocks: &[u16], edges: &[u16], from: Place, to: Place, i: Place, k: Place) -> bool
-    ensures { λ r. ⌜ r ≡ (outside (now (blocks .entry)) (now (edges .entry)) (from .0) (to .0) (k .0) && hasEdge (now (blocks .entry)) (now (edges .entry)) (jumpTo (now (blocks .entry)) (now (edges .entry)) (i .0)) (k .0)) ⌝ }
-{
-    if is_outside(from, to, k) {
-        return has_jump_to(blocks, edges, i, k);
-    }
-    false
-}
-
-// A block outside the places from `from` up to `to` jumps to place i.
+// A block outside the places from `from` up to `to` jumps to place i: only blocks between the first and the last source are read.
 pub fn has_outside_jump_to(
     blocks: &[u16],
     edges: &[u16],
+    firsts: &[u16],
+    lasts: &[u16],
     count: u16,
     from: Place,
     to: Place,
     i: Place,
 ) -> bool
+    requires { ⌜ Sources (now blocks) (now edges) count (now firsts) (now lasts) ⌝ }
     ensures { λ r. ⌜ r ≡ outsideJump (now (blocks .entry)) (now (edges .entry)) count (from .0) (to .0) (i .0) ⌝ }
 {
-    let mut k: u16 = 0;
-    while k < count {
-        if jumps_from(blocks, edges, from, to, i, Place(k)) {
-            return true;
-        }
-        k += 1;
-    }
-    false
+    let low = search_start(firsts, i);
+    let high = search_end(lasts, i, Place(count));
+    has_outside_edge(blocks, edges, low, high, from, to, Wanted::JumpTo(i))
 }
 
 // A block from `from` up to `to` has an edge to an address below the start of `from`, that of `join` excepted.
@@ -111,7 +119,7 @@ pub fn region_escapes(
 {
     let mut k = from.0;
     while k < to.0 {
-        if has_leaving_edge(blocks, edges, starts, targets, from, join, Place(k)) {
+        if has_leaving_edge(blocks, starts, targets, from, join, Place(k)) {
             return true;
         }
         k += 1;

@@ -10,6 +10,7 @@ use borrow.Author.Tests.{lt-ltb, le-ltb, le-leb, lt-leb, eq-eqb, ne-eqb}
 use lib.Dec.{ltb, leb, eqb}
 use lib.IntN.{ℤ, pos, negsuc, subℕ, _-ℤ_}
 use lib.Signed.{mag, ltZ, leZ}
+use Rattle.lists.specs.SignedLaws.{negsuc-sub}
 use Rattle.x86.specs.Conditions.{eqZ}
 use Rattle.x86.specs.Flags.{half, signed, fits, difference, cmp, unlike, holds}
 
@@ -58,10 +59,6 @@ not-leZ x y = rw (← not-ltZ y x) (Bool·not-not (ltZ y x))
 pos-sub : (a b : ℕ) → pos a -ℤ pos b ≡ subℕ a b
 pos-sub a zero = simp (add-zero, le-ltb a 0 (omega arith)) (ap pos (omega arith))
 pos-sub a (suc b) = refl
-
-negsuc-sub : (m b : ℕ) → negsuc m -ℤ pos b ≡ negsuc (m + b)
-negsuc-sub m zero = simp (lt-ltb 0 (suc m) (omega arith)) (ap negsuc (omega arith))
-negsuc-sub m (suc b) = ap negsuc (omega arith)
 
 mag-sub-lt : (a b : ℕ) → a < b → mag (subℕ a b) ≡ b - suc a
 mag-sub-lt a b l = simp (lt-ltb a b l)

@@ -15,7 +15,8 @@ use Rattle.x86.specs.Mnemonics.{mnemonicNames, mnemonicName, writesFlags
 use Rattle.x86.specs.Registers.{registerNames, registerName, registerExists, fullRegister, registerSize}
 use Rattle.x86.specs.Table.{isaBytes, bit, textAt}
 use Rattle.x86.specs.Words.{sameWord}
-use Rattle.x86.proofs.Below.{both-left, both-right, below-at, beq→eq}
+use Rattle.lists.specs.Every.{both-left, both-right, beq→eq}
+use Rattle.lists.specs.Below.{below-at}
 use Rattle.x86.proofs.Past.{not-there, whole-itself, no-size, no-flags, none-after-cmp, none-after-test, none-after-other, not-unsigned, stays}
 
 same-eq : (w v : List ℕ) → T (sameWord w v) → w ≡ v

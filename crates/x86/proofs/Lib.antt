@@ -1,10 +1,7 @@
-pub mod Below
 pub mod Cmp
 pub mod Test
 pub mod Negate
 pub mod Rule
 pub mod Columns
 pub mod Past
-pub mod Taken
-pub mod Written
 pub mod Positions

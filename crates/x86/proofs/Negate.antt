@@ -6,7 +6,8 @@ use Prim.Native.Nat.{ℕ, _+_, _-_, _≤_, _<_}
 use native.Mathlib.Omega.{arith}
 use lib.Dec.{T}
 use Rattle.lists.specs.Choice.{allBelow}
-use Rattle.x86.proofs.Below.{both-left, both-right, below-at, beq→eq}
+use Rattle.lists.specs.Every.{both-left, both-right, beq→eq}
+use Rattle.lists.specs.Below.{below-at}
 use Rattle.x86.specs.Flags.{Flags, holds}
 use Rattle.x86.specs.Conditions.{negate}
 use Rattle.x86.specs.FlagRule.{Turns}

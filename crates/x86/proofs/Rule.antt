@@ -15,7 +15,8 @@ use Rattle.x86.specs.Conditions.{conditionNames, conditionName, among, r
 use Rattle.x86.specs.FlagRule.{FlagRule, Printed, Rule, readFor}
 use Rattle.x86.specs.Flags.{cmp, test, holds, signed}
 use Rattle.x86.specs.Words.{words, isWordOf}
-use Rattle.x86.proofs.Below.{below-at, beq→eq}
+use Rattle.lists.specs.Every.{beq→eq}
+use Rattle.lists.specs.Below.{below-at}
 use Rattle.x86.proofs.Cmp.{cmp-same, cmp-unlike, cmp-e, cmp-ne, cmp-b, cmp-ae, cmp-be, cmp-a, cmp-l, cmp-ge, cmp-le, cmp-g}
 use Rattle.x86.proofs.Negate.{negate-turns}
 use Rattle.x86.proofs.Past.{no-condition, none-after-cmp, none-after-test, none-after-other}

@@ -7,3 +7,4 @@ pub mod FlagRule
 pub mod Sizes
 pub mod Table
 pub mod Conventions
+pub mod Written

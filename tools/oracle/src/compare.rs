@@ -461,7 +461,7 @@ mod port {
 
     pub type PieceTokens = fn(&[u8], u16, u16, u8) -> Tokens;
 
-    #[cfg(port_line)]
+    #[cfg(port_expressions)]
     pub fn piece_tokens() -> Result<PieceTokens, String> {
         extern "C" {
             fn piece_tokens(
@@ -504,9 +504,9 @@ mod port {
         })
     }
 
-    #[cfg(not(port_line))]
+    #[cfg(not(port_expressions))]
     pub fn piece_tokens() -> Result<PieceTokens, String> {
-        Err(missing("line"))
+        Err(missing("expressions"))
     }
 
     pub type List = fn(&[u8], usize, usize, Lists) -> Left;

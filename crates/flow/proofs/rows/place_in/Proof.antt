@@ -1,10 +1,11 @@
 -- `place_in` meets its contract.
 -- The invariant: the first from here on is the first of all.
-use mathlib.Core.Path.{_≡_, sym, _∙_}
+use mathlib.Core.Path.{_≡_, sym, ap, _∙_}
 use Prim.Native.Nat.{_≤_, _-_}
 use borrow.Author.Needs.{needs}
-use Rattle.flow.proofs.Storing.{place-all, place-here, place-next, place-none}
-use Rattle.flow.specs.Rows.{placeFrom}
+use Rattle.record.specs.Search.{findFrom}
+use Rattle.record.specs.SearchLaws.{find-all, find-here, find-next, find-none}
+use Rattle.flow.specs.Rows.{placeFound}
 use Rattle.flow.proofs.rows.place_in.Statement.{statement}
 use Rattle.flow.proofs.rows.place_in.Tie as tie
 use Rattle.flow.proofs.rows.place_in.Reads as reads
@@ -12,13 +13,13 @@ use Rattle.flow.proofs.rows.place_in.Lts as lts
 use Rattle.record.proofs.blocks.start_at.Reads as start-at-reads
 
 abbrev Inv-loop : tie.InvT-loop
-Inv-loop starts blocks va place₀ place = (place ≤ blocks) × (placeFrom starts va place (blocks - place) ≡ placeFrom starts va 0 blocks)
+Inv-loop starts blocks va place₀ place = (place ≤ blocks) × (findFrom starts va place (blocks - place) ≡ findFrom starts va 0 blocks)
 
 abbrev μ-loop : tie.MeasureT-loop
 μ-loop starts blocks va place₀ place = blocks - place
 
 loop-holds : tie.Need-loop-holds Inv-loop μ-loop
-loop-holds c = (search needs, place-all _ _ _)
+loop-holds c = (search needs, find-all _ _ _)
 
 start-at-requires : tie.Need-start-at-requires Inv-loop μ-loop
 start-at-requires c κs = search needs
@@ -26,7 +27,7 @@ start-at-requires c κs = search needs
 returns : tie.Need-returns Inv-loop μ-loop
 returns c =
     let l = c .before .before .before .before in
-    sym (place-here _ _ _ _ (c .before .before .before .loop-test .taken) (sym (c .before .before .start-at .ensures) ∙ c .if1 .taken)) ∙ l .loop .inv .1
+    ap placeFound (sym (find-here _ _ _ _ (c .before .before .before .loop-test .taken) (sym (c .before .before .start-at .ensures) ∙ c .if1 .taken)) ∙ l .loop .inv .1)
 
 add-place : tie.Need-add-place Inv-loop μ-loop
 add-place c = search needs
@@ -37,10 +38,10 @@ loop-less c = search needs
 loop-again : tie.Need-loop-again Inv-loop μ-loop
 loop-again c =
     let l = c .before .before .before .before in
-    (search needs, sym (place-next _ _ _ _ (c .before .before .before .loop-test .taken) (λ e. c .if1 .left (c .before .before .start-at .ensures ∙ e))) ∙ l .loop .inv .1)
+    (search needs, sym (find-next _ _ _ _ (c .before .before .before .loop-test .taken) (λ e. c .if1 .left (c .before .before .start-at .ensures ∙ e))) ∙ l .loop .inv .1)
 
 returns-2 : tie.Need-returns-2 Inv-loop μ-loop
-returns-2 c = sym (place-none _ _ _ _ (c .loop-test .left)) ∙ c .before .loop .inv .1
+returns-2 c = ap placeFound (sym (find-none _ _ _ _ (c .loop-test .left)) ∙ c .before .loop .inv .1)
 
 pub place-in-spec : {M : Type 1} → statement M
 place-in-spec =

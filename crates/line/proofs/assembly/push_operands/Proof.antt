@@ -5,7 +5,7 @@ use Prim.Native.Nat.{_≤_, _-_}
 use native.Mathlib.Omega.{arith}
 use lib.ListN.{length}
 use Rattle.tokens.specs.Sheet.{sheet, pushes}
-use Rattle.line.proofs.Commas.{turn, done}
+use Rattle.expressions.specs.Turns.{turn, done}
 use Rattle.line.proofs.Names.{operandsLeft, operand-step, operands-done, operands-all}
 use borrow.Author.Needs.{needs}
 use Rattle.line.proofs.assembly.push_operands.Statement.{statement}

@@ -10,9 +10,9 @@ use lib.ListN.{length, drop}
 use Rattle.tokens.specs.declared.pen.Pen.{Pen}
 use Rattle.tokens.specs.Token.{Token}
 use Rattle.tokens.specs.Sheet.{Sheet, sheet, push, pushes}
+use Rattle.expressions.specs.Turns.{turn, done}
 use Rattle.line.specs.Codes.{pieceOf}
 use Rattle.line.specs.Print.{pieceTokens, piecesTokens}
-use Rattle.line.proofs.Commas.{turn, done}
 use Rattle.line.proofs.Pieces.{is-word, is-operand, row-step, row-done, row-all, plain-kept}
 use borrow.Author.Needs.{needs}
 use Rattle.line.proofs.print.push_row.Statement.{statement}

@@ -12,7 +12,7 @@ is-labelled-requires c κs = search needs
 label-requires : tie.Need-label-requires
 label-requires c κs =
     let l = c .before in
-    let s = l .before .before .before .before .before in
+    let s = l .before .before .before .before .before .before .before in
     let a = s .args in
     (search needs, rw (l .is-labelled .ensures) (room-first (head-parts (a .blocks .now) (a .edges .now) (a .shown .now) (a .count) (a .from .0) (a .i .0) (a .to .0) (a .indent)) (s .pre .1)))
 
@@ -20,7 +20,7 @@ body-lines-requires : tie.Need-body-lines-requires
 body-lines-requires c κs =
     let b = c .before .before .before in
     let l = b .before .before in
-    let s = l .before .before .before .before .before in
+    let s = l .before .before .before .before .before .before .before in
     let a = s .args in
     (search needs, room-second (head-parts (a .blocks .now) (a .edges .now) (a .shown .now) (a .count) (a .from .0) (a .i .0) (a .to .0) (a .indent)) (rw (l .is-labelled .ensures) at (b .label .ensures)) (s .pre .1))
 
@@ -32,7 +32,7 @@ put-line-requires c κs =
     let m = c .before .before .before .before in
     let b = m .before .before .before .before in
     let l = b .before .before in
-    let s = l .before .before .before .before .before in
+    let s = l .before .before .before .before .before .before .before in
     let a = s .args in
     let room = room-third (head-parts (a .blocks .now) (a .edges .now) (a .shown .now) (a .count) (a .from .0) (a .i .0) (a .to .0) (a .indent)) (rw (l .is-labelled .ensures) at (b .label .ensures)) (m .body-lines .ensures) (s .pre .1) in
     (search needs, search needs, search needs, room-one room)
@@ -46,7 +46,7 @@ returns c =
     let m = e .before .before .before .before .before in
     let b = m .before .before .before .before in
     let l = b .before .before in
-    let a = l .before .before .before .before .before .args in
+    let a = l .before .before .before .before .before .before .before .args in
     stored-three (head-parts (a .blocks .now) (a .edges .now) (a .shown .now) (a .count) (a .from .0) (a .i .0) (a .to .0) (a .indent)) (rw (l .is-labelled .ensures) at (b .label .ensures)) (m .body-lines .ensures) (rw (e .before .last-in .ensures .0) at (e .put-line .ensures))
 
 pub emit-head-spec : {M : Type 1} → statement M

@@ -12,7 +12,7 @@ is-labelled-requires c κs = search needs
 label-requires : tie.Need-label-requires
 label-requires c κs =
     let l = c .before in
-    let s = l .before .before .before .before .before in
+    let s = l .before .before .before .before .before .before .before in
     let a = s .args in
     (search needs, rw (l .is-labelled .ensures) (room-first (plain-parts (a .blocks .now) (a .edges .now) (a .shown .now) (a .count) (a .from .0) (a .i .0) (a .to .0) (a .indent)) (s .pre .1)))
 
@@ -20,7 +20,7 @@ body-lines-requires : tie.Need-body-lines-requires
 body-lines-requires c κs =
     let b = c .before .before .before in
     let l = b .before .before in
-    let s = l .before .before .before .before .before in
+    let s = l .before .before .before .before .before .before .before in
     let a = s .args in
     (search needs, room-second (plain-parts (a .blocks .now) (a .edges .now) (a .shown .now) (a .count) (a .from .0) (a .i .0) (a .to .0) (a .indent)) (rw (l .is-labelled .ensures) at (b .label .ensures)) (s .pre .1))
 
@@ -29,7 +29,7 @@ closing-line-requires c κs =
     let m = c .before .before .before in
     let b = m .before .before .before .before in
     let l = b .before .before in
-    let s = l .before .before .before .before .before in
+    let s = l .before .before .before .before .before .before .before in
     let a = s .args in
     (search needs, room-third (plain-parts (a .blocks .now) (a .edges .now) (a .shown .now) (a .count) (a .from .0) (a .i .0) (a .to .0) (a .indent)) (rw (l .is-labelled .ensures) at (b .label .ensures)) (m .body-lines .ensures) (s .pre .1))
 
@@ -42,7 +42,7 @@ returns c =
     let m = e .before .before .before .before in
     let b = m .before .before .before .before in
     let l = b .before .before in
-    let a = l .before .before .before .before .before .args in
+    let a = l .before .before .before .before .before .before .before .args in
     stored-three (plain-parts (a .blocks .now) (a .edges .now) (a .shown .now) (a .count) (a .from .0) (a .i .0) (a .to .0) (a .indent)) (rw (l .is-labelled .ensures) at (b .label .ensures)) (m .body-lines .ensures) (e .closing-line .ensures)
 
 pub emit-plain-spec : {M : Type 1} → statement M

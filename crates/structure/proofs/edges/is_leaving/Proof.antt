@@ -1,4 +1,4 @@
--- An edge to an address below a start: `is_leaving` meets its contract.
+-- Whether an edge leaves a region backwards: `is_leaving` meets its contract.
 -- By the three addresses that were read.
 use borrow.Author.Needs.{needs}
 use Rattle.structure.proofs.edges.is_leaving.Statement.{statement}
@@ -14,9 +14,7 @@ start-at-requires-2 : tie.Need-start-at-requires-2
 start-at-requires-2 c κs = search needs
 
 returns : tie.Need-returns
-returns c =
-    let j = c .before .before .before .before in
-    simp (j .start-at2 .ensures, j .before .start-at .ensures, j .before .before .target-at .ensures)
+returns c = simp ((c .before .before .before .before .start-at2) .ensures, (c .before .before .before .before .before .start-at) .ensures, (c .before .before .before .before .before .before .target-at) .ensures)
 
 pub is-leaving-spec : {M : Type 1} → statement M
 is-leaving-spec =

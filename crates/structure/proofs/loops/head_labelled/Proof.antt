@@ -8,8 +8,8 @@ use Rattle.structure.proofs.loops.head_labelled.Tie as tie
 label-wanted-requires : tie.Need-label-wanted-requires
 label-wanted-requires c κs = search needs
 
-add-t7 : tie.Need-add-t7
-add-t7 c = search needs
+add-t9 : tie.Need-add-t9
+add-t9 c = search needs
 
 has-outside-jump-to-requires : tie.Need-has-outside-jump-to-requires
 has-outside-jump-to-requires c κs = search needs
@@ -23,4 +23,4 @@ returns-2 c = simp (sym (c .before .label-wanted .ensures), c .if1 .left)
 pub head-labelled-spec : {M : Type 1} → statement M
 head-labelled-spec =
     tie.close
-    (tie.spec label-wanted-requires add-t7 has-outside-jump-to-requires returns returns-2)
+    (tie.spec label-wanted-requires add-t9 has-outside-jump-to-requires returns returns-2)

@@ -12,7 +12,7 @@ use Rattle.structure.specs.Codes.{codes}
 use Rattle.structure.specs.Parts.{region-parts}
 use Rattle.structure.specs.Turns.{range-over, turn-loop, turn-region, turn-plain, loop-reach, region-reach}
 use Rattle.structure.specs.Stored.{Left, left-all, left-step, left-done, left-part, left-length, room-first, room-second, room-third, room-one, stored-three, stored-length}
-use Rattle.structure.proofs.Ended.{ends-within}
+use Rattle.structure.proofs.Sourced.{ends-within}
 use Rattle.structure.proofs.plan.emit_range.Reads as range-reads
 use Rattle.structure.proofs.plan.emit_range.Kinds as range-kinds
 use Rattle.structure.proofs.plan.+emit_range+emit_region.Lts-emit_range as range
@@ -76,7 +76,7 @@ range-emit-loop-requires t c κs =
     let a = w .args in
     let e = sym (s .shape-at .ensures) ∙ k .j .given .1 in
     let r = loop-reach (a .blocks .now) (a .edges .now) (a .shown .now) (a .starts .now) (a .targets .now) (a .count) (a .from .0) (l .loop .i) (a .to .0) (a .indent) (s .before .loop-test .taken) (k .j .given .0 .0) e in
-    (omega (arith, r, w .pre .1 .0), omega (arith, r, w .pre .1 .0, l .loop .inv .0), left-part (l .loop .inv .1) (w .pre .1 .1 .1 .1) (turn-loop (a .blocks .now) (a .edges .now) (a .shown .now) (a .starts .now) (a .targets .now) (a .count) (a .from .0) (l .loop .i) (a .to .0) (a .indent) (s .before .loop-test .taken) (k .j .given .0 .0) e))
+    (omega (arith, r, w .pre .1 .0), omega (arith, r, w .pre .1 .0, l .loop .inv .0), left-part (l .loop .inv .1) (w .pre .1 .1 .1 .1) (turn-loop (a .blocks .now) (a .edges .now) (a .shown .now) (a .starts .now) (a .targets .now) (a .count) (a .from .0) (l .loop .i) (a .to .0) (a .indent) (s .before .loop-test .taken) (k .j .given .0 .0) e), w .pre .1 .1 .1 .0)
 
 range-add-i : (t : ℕ) → range.Need-add-i (range-known t) (range-at t) range-reads.Post Inv μ-loop
 range-add-i t c =
@@ -154,7 +154,7 @@ range-emit-plain-requires t c κs =
     let w = l .before .before .before .before .before .before .before .before .before .before in
     let a = w .args in
     let e = sym (s .shape-at .ensures) ∙ k .enum-told .given .1 in
-    (omega (arith, w .pre .1 .0), left-part (l .loop .inv .1) (w .pre .1 .1 .1 .1) (turn-plain (a .blocks .now) (a .edges .now) (a .shown .now) (a .starts .now) (a .targets .now) (a .count) (a .from .0) (l .loop .i) (a .to .0) (a .indent) (s .before .loop-test .taken) e))
+    (omega (arith, w .pre .1 .0), left-part (l .loop .inv .1) (w .pre .1 .1 .1 .1) (turn-plain (a .blocks .now) (a .edges .now) (a .shown .now) (a .starts .now) (a .targets .now) (a .count) (a .from .0) (l .loop .i) (a .to .0) (a .indent) (s .before .loop-test .taken) e), w .pre .1 .1 .1 .0)
 
 range-add-i-2 : (t : ℕ) → range.Need-add-i-2 (range-known t) (range-at t) range-reads.Post Inv μ-loop
 range-add-i-2 t c = omega (arith, c .before .before .before .before .before .before .before .loop-test .taken, c .before .before .before .before .before .before .before .before .before .before .before .before .before .before .before .before .before .before .pre .1 .0)
@@ -182,7 +182,7 @@ region-emit-head-requires : (t : ℕ) → region.Need-emit-head-requires (region
 region-emit-head-requires t c κs =
     let w = c .before .before .before .before .before .before .before .before .before .before in
     let a = w .args in
-    (omega (arith, w .pre .1 .0), room-first (region-parts (a .blocks .now) (a .edges .now) (a .shown .now) (a .count) (rangeLines (a .blocks .now) (a .edges .now) (a .shown .now) (a .starts .now) (a .targets .now) (a .count)) (a .from .0) (a .i .0) (a .t .0) (a .to .0) (a .indent)) (w .pre .1 .1 .1 .1))
+    (omega (arith, w .pre .1 .0), room-first (region-parts (a .blocks .now) (a .edges .now) (a .shown .now) (a .count) (rangeLines (a .blocks .now) (a .edges .now) (a .shown .now) (a .starts .now) (a .targets .now) (a .count)) (a .from .0) (a .i .0) (a .t .0) (a .to .0) (a .indent)) (w .pre .1 .1 .1 .1), w .pre .1 .1 .1 .0)
 
 region-add-t21 : (t : ℕ) → region.Need-add-t21 (region-known t) (region-at t) region-reads.Post
 region-add-t21 t c =

@@ -5,18 +5,18 @@ use borrow.Author.Needs.{needs}
 use Rattle.structure.proofs.shape.is_region.Statement.{statement}
 use Rattle.structure.proofs.shape.is_region.Tie as tie
 
-sole-entry-requires : tie.Need-sole-entry-requires
-sole-entry-requires c κs = search needs
+single-entry-requires : tie.Need-single-entry-requires
+single-entry-requires c κs = search needs
 
 region-escapes-requires : tie.Need-region-escapes-requires
 region-escapes-requires c κs = search needs
 
 returns : tie.Need-returns
-returns c = simp (sym (c .before .before .sole-entry .ensures), c .before .if1 .taken, c .region-escapes .ensures)
+returns c = simp (sym (c .before .before .single-entry .ensures), c .before .if1 .taken, c .region-escapes .ensures)
 
 returns-2 : tie.Need-returns-2
-returns-2 c = simp (sym (c .before .sole-entry .ensures), c .if1 .left)
+returns-2 c = simp (sym (c .before .single-entry .ensures), c .if1 .left)
 
 pub is-region-spec : {M : Type 1} → statement M
 is-region-spec =
-    tie.close (tie.spec sole-entry-requires region-escapes-requires returns returns-2)
+    tie.close (tie.spec single-entry-requires region-escapes-requires returns returns-2)

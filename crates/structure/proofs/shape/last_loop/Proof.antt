@@ -4,11 +4,11 @@ use mathlib.Core.Path.{_≡_, refl, sym, ap, _∙_}
 use mathlib.Core.Bool.{Bool}
 use Prim.Native.Nat.{_-_, _≤_}
 use Rattle.lists.specs.Choice.{pick}
-use Rattle.structure.specs.Flow.{closesLoop}
-use Rattle.structure.specs.Shape.{lastFrom}
-use Rattle.structure.specs.declared.shape.Found.the-variants.{At}
-use Rattle.structure.proofs.Ended.{search-behind}
-use Rattle.structure.proofs.Found.{last-turn, last-over}
+use Rattle.structure.specs.Graph.{closesLoop}
+use Rattle.record.specs.Search.{lastFrom}
+use Rattle.record.specs.declared.search.Found.the-variants.{At}
+use Rattle.structure.proofs.Sourced.{search-behind}
+use Rattle.record.specs.SearchLaws.{last-turn, last-over}
 use borrow.Author.Needs.{needs}
 use Rattle.structure.proofs.shape.last_loop.Statement.{statement}
 use Rattle.structure.proofs.shape.last_loop.Tie as tie

@@ -2,7 +2,7 @@
 -- By what the search for a loop found, which lies before the range's end.
 use mathlib.Core.Path.{sym, _∙_}
 use Prim.Native.Nat.{_<_}
-use Rattle.structure.specs.Flow.{closesLoop}
+use Rattle.structure.specs.Graph.{closesLoop}
 use Rattle.structure.specs.Within.{last-before}
 use Rattle.structure.proofs.Stands.{stands-loop, stands-no-loop, stands-alone}
 use borrow.Author.Needs.{needs}

@@ -4,7 +4,7 @@ use mathlib.Core.Path.{_≡_, sym, _∙_}
 use mathlib.Core.Bool.{false}
 use Prim.Native.Nat.{_+_, _-_, _≤_}
 use Rattle.lists.specs.Choice.{anyBelow}
-use Rattle.structure.specs.Flow.{hasEdge, leaves, escapes}
+use Rattle.structure.specs.Graph.{hasEdge, leaves, escapes}
 use Rattle.structure.proofs.Found.{place-found, place-goes-on}
 use borrow.Author.Needs.{needs}
 use native.Mathlib.Omega.{arith}
@@ -12,7 +12,7 @@ use Rattle.structure.proofs.tests.region_escapes.Statement.{statement}
 use Rattle.structure.proofs.tests.region_escapes.Tie as tie
 
 abbrev Inv-loop : tie.InvT-loop
-Inv-loop blocks edges starts targets from to join k₀ k = (from .0 ≤ k) × (k - from .0 ≤ to .0 - from .0) × (anyBelow (λ m. hasEdge blocks edges (leaves blocks edges starts targets (from .0) (join .0)) (from .0 + m)) (k - from .0) ≡ false)
+Inv-loop blocks edges starts targets from to join k₀ k = (from .0 ≤ k) × (k - from .0 ≤ to .0 - from .0) × (anyBelow (λ m. hasEdge blocks (leaves starts targets (from .0) (join .0)) (from .0 + m)) (k - from .0) ≡ false)
 
 abbrev μ-loop : tie.MeasureT-loop
 μ-loop blocks edges starts targets from to join k₀ k = to .0 - k
@@ -29,7 +29,7 @@ returns c =
     let t = c .before in
     let l = t .before .before .before in
     let a = l .before .before .before .before .before .args in
-    sym (place-found (hasEdge (a .blocks .now) (a .edges .now) (leaves (a .blocks .now) (a .edges .now) (a .starts .now) (a .targets .now) (a .from .0) (a .join .0))) (a .from .0) (l .loop .k) (l .loop .inv .0) (a .to .0) (search needs) (sym (t .has-leaving-edge .ensures) ∙ c .if2 .taken))
+    sym (place-found (hasEdge (a .blocks .now) (leaves (a .starts .now) (a .targets .now) (a .from .0) (a .join .0))) (a .from .0) (l .loop .k) (l .loop .inv .0) (a .to .0) (search needs) (sym (t .has-leaving-edge .ensures) ∙ c .if2 .taken))
 
 add-k : tie.Need-add-k Inv-loop μ-loop
 add-k c = search needs
@@ -42,7 +42,7 @@ loop-again c =
     let t = c .before in
     let l = t .before .before .before in
     let a = l .before .before .before .before .before .args in
-    (search needs, search needs, place-goes-on (hasEdge (a .blocks .now) (a .edges .now) (leaves (a .blocks .now) (a .edges .now) (a .starts .now) (a .targets .now) (a .from .0) (a .join .0))) (a .from .0) (l .loop .k) (l .loop .inv .0) (l .loop .inv .2) (sym (t .has-leaving-edge .ensures) ∙ c .if2 .left))
+    (search needs, search needs, place-goes-on (hasEdge (a .blocks .now) (leaves (a .starts .now) (a .targets .now) (a .from .0) (a .join .0))) (a .from .0) (l .loop .k) (l .loop .inv .0) (l .loop .inv .2) (sym (t .has-leaving-edge .ensures) ∙ c .if2 .left))
 
 returns-2 : tie.Need-returns-2 Inv-loop μ-loop
 unfolding escapes

@@ -2,7 +2,7 @@
 -- What is taken of the rest is kept within it, which changes nothing.
 use native.Mathlib.Omega.{arith}
 use lib.ListN.{length-take}
-use Rattle.x86.proofs.Taken.{taken}
+use Rattle.lists.specs.Taken.{take-within}
 use borrow.Author.Needs.{needs}
 use Rattle.x86.proofs.table.text_at.Statement.{statement}
 use Rattle.x86.proofs.table.text_at.Tie as tie
@@ -29,7 +29,7 @@ returns : tie.Need-returns
 returns c =
     let f = c .before .before .from in
     let n = c .before .before .before .u8-at .ensures .0 in
-    rw (← n, ← f .ensures .0) (taken (f .result .now) _ _ (c .before .within .ensures))
+    rw (← n, ← f .ensures .0) (take-within (f .result .now) _ _ (c .before .within .ensures))
 
 pub text-at-spec : {M : Type 1} → statement M
 text-at-spec =

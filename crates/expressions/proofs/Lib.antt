@@ -1,0 +1,5 @@
+pub mod Search
+pub mod Written
+pub mod Relations
+pub mod Commas
+pub mod Exports

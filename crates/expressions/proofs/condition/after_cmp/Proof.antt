@@ -1,0 +1,76 @@
+-- `after_cmp` meets its contract.
+-- By whether the table has a relation for the condition.
+use mathlib.Core.Path.{_≡_, refl, sym, _∙_}
+use borrow.Author.Needs.{needs}
+use Rattle.expressions.proofs.Relations.{related, then, none-cmp}
+use borrow.Author.Needs.{needs}
+use Rattle.expressions.proofs.condition.after_cmp.Statement.{statement}
+use Rattle.expressions.proofs.condition.after_cmp.Tie as tie
+use Rattle.expressions.proofs.condition.after_cmp.Reads as reads
+use Rattle.expressions.proofs.condition.after_cmp.Lts as lts
+use Rattle.expressions.proofs.condition.push_flags.Reads as push-flags-reads
+use Rattle.expressions.proofs.condition.push_unsigned.Reads as push-unsigned-reads
+use Rattle.operand.proofs.operand.op.Reads as op-reads
+use Rattle.tokens.proofs.push.push_word.Reads as push-word-reads
+use Rattle.x86.proofs.conditions.relation_after_cmp.Reads as relation-after-cmp-reads
+
+relation-after-cmp-requires : tie.Need-relation-after-cmp-requires
+relation-after-cmp-requires c κs = search needs
+
+push-unsigned-requires : tie.Need-push-unsigned-requires
+push-unsigned-requires c κs = search needs
+
+add-push-word : tie.Need-add-push-word
+add-push-word c = search needs
+
+push-word-requires : tie.Need-push-word-requires
+push-word-requires c κs = search needs
+
+op-requires : tie.Need-op-requires
+op-requires c κs = c .before .before .before .before .before .before .before .before .before .before .before .before .before .before .before .before .before .before .before .before .before .before .before .before .before .before .before .before .before .before .before .before .pre
+
+same-length : tie.Need-same-length
+same-length c = search needs
+
+same-length-2 : tie.Need-same-length-2
+same-length-2 c = search needs
+
+same-length-3 : tie.Need-same-length-3
+same-length-3 c = search needs
+
+returns : tie.Need-returns
+returns c = related _ (c .before .before .before .before .before .before .before .before .before .before .before .before .before .before .before .before .before .before .before .before .before .before .before .before .before .before .before .before .before .before .before .before .before .before .before .before .before .before .before .args .cc) _ _ (c .before .before .before .before .before .before .before .before .before .before .before .before .before .before .before .before .before .before .before .before .before .before .before .before .before .before .before .before .before .before .before .relation-after-cmp .ensures) _ _ _ _ (c .before .before .before .before .before .before .before .before .before .before .before .before .before .before .before .before .before .before .before .before .before .before .before .before .before .before .before .before .before .before .if1 .taken) (c .before .before .before .before .before .before .before .before .before .before .before .before .before .before .before .before .before .before .before .before .before .before .before .before .before .before .push-unsigned .ensures) (then _ _ _ _ _ (c .before .before .before .before .before .before .before .before .before .before .before .before .before .before .before .before .before .before .before .before .before .before .before .before .before .before .before .before .before .before .if1 .taken) (c .before .before .before .before .before .before .before .before .before .before .before .before .before .before .before .before .push-word .ensures) (c .before .before .before .before .before .before .op .ensures))
+
+push-flags-requires : tie.Need-push-flags-requires
+push-flags-requires c κs = search needs
+
+same-length-4 : tie.Need-same-length-4
+same-length-4 c = search needs
+
+same-length-5 : tie.Need-same-length-5
+same-length-5 c = search needs
+
+same-length-6 : tie.Need-same-length-6
+same-length-6 c = search needs
+
+returns-2 : tie.Need-returns-2
+returns-2 c = none-cmp (c .before .before .before .before .before .before .before .before .before .before .before .before .before .before .before .before .before .before .before .args .h) (c .before .before .before .before .before .before .before .before .before .before .before .before .before .before .before .before .before .before .before .args .rec .now) (c .before .before .before .before .before .before .before .before .before .before .before .before .before .before .before .before .before .before .before .args .body .now) (c .before .before .before .before .before .before .before .before .before .before .before .before .before .before .before .before .before .before .before .args .cc) _ _ _ (c .before .before .before .before .before .before .before .before .before .before .if1 .left) (c .before .before .before .before .before .before .push-flags .ensures) (c .before .before .before .before .before .before .before .before .before .before .before .relation-after-cmp .ensures)
+
+pub after-cmp-spec : {M : Type 1} → statement M
+after-cmp-spec =
+    tie.close
+    (tie.spec
+    relation-after-cmp-requires
+    push-unsigned-requires
+    add-push-word
+    push-word-requires
+    op-requires
+    same-length
+    same-length-2
+    same-length-3
+    returns
+    push-flags-requires
+    same-length-4
+    same-length-5
+    same-length-6
+    returns-2)

@@ -1,0 +1,45 @@
+-- `push_and` meets its contract.
+-- Three pushes, one behind the other.
+use mathlib.Core.Path.{_≡_, refl, sym, _∙_}
+use borrow.Author.Needs.{needs}
+use Rattle.expressions.proofs.Relations.{both}
+use borrow.Author.Needs.{needs}
+use Rattle.expressions.proofs.condition.push_and.Statement.{statement}
+use Rattle.expressions.proofs.condition.push_and.Tie as tie
+use Rattle.expressions.proofs.condition.push_and.Reads as reads
+use Rattle.expressions.proofs.condition.push_and.Lts as lts
+use Rattle.operand.proofs.operand.op.Reads as op-reads
+use Rattle.tokens.proofs.push.push_word.Reads as push-word-reads
+
+op-requires : tie.Need-op-requires
+op-requires c κs = search needs
+
+push-word-requires : tie.Need-push-word-requires
+push-word-requires c κs = search needs
+
+op-requires-2 : tie.Need-op-requires-2
+op-requires-2 c κs = c .before .before .before .before .before .before .before .before .before .before .before .before .before .before .before .before .before .before .before .before .before .before .before .before .before .before .before .before .before .before .pre
+
+same-length : tie.Need-same-length
+same-length c = search needs
+
+same-length-2 : tie.Need-same-length-2
+same-length-2 c = search needs
+
+same-length-3 : tie.Need-same-length-3
+same-length-3 c = search needs
+
+returns : tie.Need-returns
+returns c = both _ _ _ _ _ _ (c .before .before .before .before .before .before .before .before .before .before .before .before .before .before .before .before .before .before .before .before .before .before .before .before .before .before .op .ensures) (c .before .before .before .before .before .before .before .before .before .before .before .before .before .before .before .before .push-word .ensures) (c .before .before .before .before .before .before .op2 .ensures)
+
+pub push-and-spec : {M : Type 1} → statement M
+push-and-spec =
+    tie.close
+    (tie.spec
+    op-requires
+    push-word-requires
+    op-requires-2
+    same-length
+    same-length-2
+    same-length-3
+    returns)

@@ -1,0 +1,53 @@
+-- `export::piece_tokens` meets its contract.
+-- By whether the record and the instruction are accepted.
+use Rattle.expressions.proofs.Exports.{listed-rising, written, refused}
+use borrow.Author.Needs.{needs}
+use Rattle.expressions.proofs.export.piece_tokens.Statement.{statement}
+use Rattle.expressions.proofs.export.piece_tokens.Tie as tie
+
+read-header-requires : tie.Need-read-header-requires
+read-header-requires c κs = search needs
+
+is-listed-requires : tie.Need-is-listed-requires
+is-listed-requires c κs = search needs
+
+write-chosen-requires : tie.Need-write-chosen-requires
+write-chosen-requires c κs =
+    let a = c .before .before .before .before .before .before .before .before .before .before .args in
+    listed-rising _ (a .rec .now) (a .instruction) (c .before .before .before .before .before .read-header .ensures) _ (c .before .before .before .before .is-listed .ensures) (c .before .before .before .if1 .taken)
+
+sizes-of-requires : tie.Need-sizes-of-requires
+sizes-of-requires c κs = search needs
+
+same-length : tie.Need-same-length
+same-length c = search needs
+
+same-length-2 : tie.Need-same-length-2
+same-length-2 c = search needs
+
+same-length-3 : tie.Need-same-length-3
+same-length-3 c = search needs
+
+returns : tie.Need-returns
+returns c =
+    let a = c .before .before .before .before .before .before .before .before .before .before .before .before .before .before .before .before .before .before .args in
+    written _ (a .rec .now) (a .instruction) (c .before .before .before .before .before .before .before .before .before .before .before .before .before .read-header .ensures) _ (c .before .before .before .before .before .before .before .before .before .before .before .before .is-listed .ensures) _ _ _ (a .first) (a .what) _ _ _ _ _ (c .before .before .before .before .before .before .before .before .before .before .before .if1 .taken) (c .before .before .before .before .before .before .before .write-chosen .ensures) (c .sizes-of .ensures)
+
+returns-2 : tie.Need-returns-2
+returns-2 c =
+    let a = c .before .before .before .before .before .before .before .args in
+    refused _ (a .rec .now) (a .instruction) (c .before .before .read-header .ensures) _ (c .before .is-listed .ensures) _ _ _ (a .first) (a .what) (c .if1 .left)
+
+pub piece-tokens-spec : {M : Type 1} → statement M
+piece-tokens-spec =
+    tie.close
+    (tie.spec
+    read-header-requires
+    is-listed-requires
+    write-chosen-requires
+    sizes-of-requires
+    same-length
+    same-length-2
+    same-length-3
+    returns
+    returns-2)

@@ -1,0 +1,5 @@
+pub mod Condition
+pub mod Arguments
+pub mod Turns
+pub mod Bounds
+pub mod Export

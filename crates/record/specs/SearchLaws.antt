@@ -1,0 +1,64 @@
+-- The first number that is x: by what is known of all of them, and as a loop that goes from one to the next asks it; the last that
+-- passes a test, as a loop that goes down asks it.
+-- Each is the definition at one number, or an induction over those that are left.
+use mathlib.Core.Path.{_≡_, refl, ap, _∙_}
+use mathlib.Core.Bool.{Bool}
+use mathlib.Core.List.{List}
+use Prim.Native.Nat.{ℕ, zero, suc, _+_, _-_, _<_, _≤_}
+use native.Mathlib.Decide.{ℕ-discrete}
+use native.Mathlib.Numerals.{add-one}
+use native.Mathlib.Omega.{arith}
+use lib.Dec.{eqb}
+use borrow.Author.Tests.{eq-eqb, ne-eqb}
+use Rattle.lists.specs.Choice.{pick}
+use Rattle.record.specs.Search.{numberAt, findFrom, lastFrom}
+use Rattle.record.specs.declared.search.Found.{Found}
+use Rattle.record.specs.declared.search.Found.the-variants.{At, Nothing}
+
+module _ (numbers : List ℕ) (x : ℕ) where
+  -- none of n numbers from k on
+  pub find-nothing : (k n : ℕ) → ((j : ℕ) → j < k + n → numberAt numbers j ≡ x → ⊥) → findFrom numbers x k n ≡ Nothing
+  unfolding findFrom
+  find-nothing k zero h = refl
+  find-nothing k (suc n) h = rw (ne-eqb (numberAt numbers k) x (h k (omega arith))) (find-nothing (suc k) n (λ j a. h j (omega arith)))
+
+  -- number m is the first of those from k on
+  pub find-first : (k n m : ℕ) → k ≤ m → m < k + n → ((j : ℕ) → j < m → numberAt numbers j ≡ x → ⊥) → numberAt numbers m ≡ x → findFrom numbers x k n ≡ At m
+  unfolding findFrom
+  find-first k zero m a b h e = absurd (omega arith)
+  find-first k (suc n) m a b h e =
+      elim (ℕ-discrete k m) [
+        | yes q ↦ rw (q, eq-eqb (numberAt numbers m) x e)
+        | no q ↦ rw (ne-eqb (numberAt numbers k) x (h k (omega arith))) (find-first (suc k) n m (omega arith) (omega arith) h e)
+      ]
+
+  -- those from k on, of n
+  pub find-all : (n : ℕ) → findFrom numbers x 0 (n - 0) ≡ findFrom numbers x 0 n
+  find-all n = let e : n - 0 ≡ n = omega arith in rw e
+
+  module _ (n k : ℕ) where
+    find-one : k < n → findFrom numbers x k (n - k) ≡ pick (eqb (numberAt numbers k) x) (At k) (findFrom numbers x (k + 1) (n - (k + 1)))
+    unfolding findFrom
+    find-one h = let d : n - k ≡ suc (n - (k + 1)) = omega arith in rw (d, add-one k)
+
+    pub find-here : k < n → numberAt numbers k ≡ x → findFrom numbers x k (n - k) ≡ At k
+    find-here h e = find-one h ∙ rw (eq-eqb (numberAt numbers k) x e)
+
+    pub find-next : k < n → (numberAt numbers k ≡ x → ⊥) → findFrom numbers x k (n - k) ≡ findFrom numbers x (k + 1) (n - (k + 1))
+    find-next h e = find-one h ∙ rw (ne-eqb (numberAt numbers k) x e)
+
+    pub find-none : n ≤ k → findFrom numbers x k (n - k) ≡ Nothing
+    unfolding findFrom
+    find-none h = let d : n - k ≡ 0 = omega arith in rw d
+
+-- the search for the last number that passes, at one number less
+pub last-turn : (p : ℕ → Bool) (i j : ℕ) → i < j → lastFrom p i (j - i) ≡ pick (p (j - 1)) (At (j - 1)) (lastFrom p i (j - 1 - i))
+unfolding lastFrom
+last-turn p i j h =
+    let s : j - i ≡ suc (j - 1 - i) = omega arith in
+    let t : i + (j - 1 - i) ≡ j - 1 = omega arith in
+    ap (lastFrom p i) s ∙ ap (λ (x : ℕ). pick (p x) (At x) (lastFrom p i (j - 1 - i))) t
+
+pub last-over : (p : ℕ → Bool) (i j : ℕ) → j ≤ i → lastFrom p i (j - i) ≡ Nothing
+unfolding lastFrom
+last-over p i j h = let s : j - i ≡ 0 = omega arith in rw s

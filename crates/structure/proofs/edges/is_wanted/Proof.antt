@@ -1,0 +1,46 @@
+-- Whether an edge is wanted: `is_wanted` meets its contract.
+-- By what is wanted, with the two numbers of the edge that were read.
+use borrow.Author.Needs.{needs}
+use Rattle.structure.proofs.edges.is_wanted.Statement.{statement}
+use Rattle.structure.proofs.edges.is_wanted.Tie as tie
+
+edge-to-requires : tie.Need-edge-to-requires
+edge-to-requires c κs = search needs
+
+enum-known-wanted : tie.Need-enum-known-wanted
+enum-known-wanted c = search needs
+
+edge-kind-requires : tie.Need-edge-kind-requires
+edge-kind-requires c κs = search needs
+
+enum-known-wanted-2 : tie.Need-enum-known-wanted-2
+enum-known-wanted-2 c = search needs
+
+enum-known-wanted-3 : tie.Need-enum-known-wanted-3
+enum-known-wanted-3 c = search needs
+
+edge-kind-requires-2 : tie.Need-edge-kind-requires-2
+edge-kind-requires-2 c κs = search needs
+
+returns : tie.Need-returns
+returns c = rw ((c .before .before .before .before .wanted) .given .1, (c .edge-kind) .ensures, (c .before .before .before .before .before .before .edge-to) .ensures)
+
+returns-2 : tie.Need-returns-2
+returns-2 c = rw ((c .before .before .before .before .before .wanted2) .given .1, (c .before .before .before .before .before .before .before .edge-to) .ensures)
+
+returns-3 : tie.Need-returns-3
+returns-3 c = rw ((c .before .before .before .before .wanted3) .given .1, (c .edge-kind2) .ensures, (c .before .before .before .before .before .before .edge-to) .ensures)
+
+pub is-wanted-spec : {M : Type 1} → statement M
+is-wanted-spec =
+    tie.close
+    (tie.spec
+    edge-to-requires
+    enum-known-wanted
+    edge-kind-requires
+    enum-known-wanted-2
+    enum-known-wanted-3
+    edge-kind-requires-2
+    returns
+    returns-2
+    returns-3)

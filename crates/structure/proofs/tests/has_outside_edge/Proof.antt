@@ -1,0 +1,66 @@
+-- Whether a block outside has a wanted edge: `has_outside_edge` meets its contract.
+-- The invariant: no block so far does.
+use mathlib.Core.Path.{_≡_, sym, _∙_}
+use mathlib.Core.Bool.{Bool, false, _&&_}
+use mathlib.Core.List.{List}
+use Prim.Native.Nat.{ℕ, _+_, _-_, _≤_}
+use Rattle.lists.specs.Choice.{anyBelow}
+use Rattle.structure.specs.Graph.{hasEdge, passes, outside}
+use Rattle.structure.specs.declared.edges.Wanted.{Wanted}
+use Rattle.structure.proofs.Found.{place-found, place-goes-on}
+use native.Mathlib.Omega.{arith}
+use borrow.Author.Needs.{needs}
+use Rattle.structure.proofs.tests.has_outside_edge.Statement.{statement}
+use Rattle.structure.proofs.tests.has_outside_edge.Tie as tie
+
+abbrev comesFrom : List ℕ → List ℕ → ℕ → ℕ → Wanted → ℕ → Bool
+comesFrom blocks edges from to wanted k = outside from to k && hasEdge blocks (passes edges wanted) k
+
+abbrev Inv-loop : tie.InvT-loop
+Inv-loop blocks edges low high from to wanted k₀ k = (low ≤ k) × (k - low ≤ high - low) × (anyBelow (λ m. comesFrom blocks edges (from .0) (to .0) wanted (low + m)) (k - low) ≡ false)
+
+abbrev μ-loop : tie.MeasureT-loop
+μ-loop blocks edges low high from to wanted k₀ k = high - k
+
+loop-holds : tie.Need-loop-holds Inv-loop μ-loop
+loop-holds c =
+    let e : (c .before .before .args) .low - (c .before .before .args) .low ≡ 0 = omega arith in
+    (search needs, search needs, rw e)
+
+comes-from-requires : tie.Need-comes-from-requires Inv-loop μ-loop
+comes-from-requires c κs = search needs
+
+returns : tie.Need-returns Inv-loop μ-loop
+returns c =
+    let a = (c .before .before .before .before .before .before .args) in
+    sym (place-found (comesFrom (a .blocks .now) (a .edges .now) (a .from .0) (a .to .0) (a .wanted)) (a .low) ((c .before .before .before .loop) .k) ((c .before .before .before .loop) .inv .0) (a .high) (search needs) (sym ((c .before .comes-from) .ensures) ∙ (c .if1) .taken))
+
+add-k : tie.Need-add-k Inv-loop μ-loop
+add-k c = search needs
+
+loop-less : tie.Need-loop-less Inv-loop μ-loop
+loop-less c = search needs
+
+loop-again : tie.Need-loop-again Inv-loop μ-loop
+loop-again c =
+    let a = (c .before .before .before .before .before .before .args) in
+    (search needs, search needs, place-goes-on (comesFrom (a .blocks .now) (a .edges .now) (a .from .0) (a .to .0) (a .wanted)) (a .low) ((c .before .before .before .loop) .k) ((c .before .before .before .loop) .inv .0) ((c .before .before .before .loop) .inv .2) (sym ((c .before .comes-from) .ensures) ∙ (c .if1) .left))
+
+returns-2 : tie.Need-returns-2 Inv-loop μ-loop
+returns-2 c =
+    let e : (c .before .loop) .k - (c .before .before .before .before .args) .low ≡ (c .before .before .before .before .args) .high - (c .before .before .before .before .args) .low = omega arith in
+    sym (rw e at ((c .before .loop) .inv .2))
+
+pub has-outside-edge-spec : {M : Type 1} → statement M
+has-outside-edge-spec =
+    tie.close
+    (tie.spec
+    Inv-loop
+    μ-loop
+    loop-holds
+    comes-from-requires
+    returns
+    add-k
+    loop-less
+    loop-again
+    returns-2)
