@@ -10,14 +10,6 @@ use Rattle.expressions.specs.Arguments.{writtenAfter}
 use borrow.Author.Needs.{needs}
 use Rattle.expressions.proofs.arguments.written_after.Statement.{statement}
 use Rattle.expressions.proofs.arguments.written_after.Tie as tie
-use Rattle.expressions.proofs.arguments.written_after.Reads as reads
-use Rattle.expressions.proofs.arguments.written_after.Lts as lts
-use Rattle.record.proofs.body.mnemonic.Reads as mnemonic-reads
-use Rattle.record.proofs.body.op_count.Reads as op-count-reads
-use Rattle.record.proofs.body.op_kind.Reads as op-kind-reads
-use Rattle.record.proofs.body.op_register.Reads as op-register-reads
-use Rattle.x86.proofs.conventions.with_written.Reads as with-written-reads
-use Rattle.x86.proofs.registers.full_register.Reads as full-register-reads
 
 mnemonic-requires : tie.Need-mnemonic-requires
 mnemonic-requires c κs = search needs

@@ -6,13 +6,6 @@ use Rattle.expressions.proofs.Relations.{related, then, none-cmp}
 use borrow.Author.Needs.{needs}
 use Rattle.expressions.proofs.condition.after_cmp.Statement.{statement}
 use Rattle.expressions.proofs.condition.after_cmp.Tie as tie
-use Rattle.expressions.proofs.condition.after_cmp.Reads as reads
-use Rattle.expressions.proofs.condition.after_cmp.Lts as lts
-use Rattle.expressions.proofs.condition.push_flags.Reads as push-flags-reads
-use Rattle.expressions.proofs.condition.push_unsigned.Reads as push-unsigned-reads
-use Rattle.operand.proofs.operand.op.Reads as op-reads
-use Rattle.tokens.proofs.push.push_word.Reads as push-word-reads
-use Rattle.x86.proofs.conditions.relation_after_cmp.Reads as relation-after-cmp-reads
 
 relation-after-cmp-requires : tie.Need-relation-after-cmp-requires
 relation-after-cmp-requires c κs = search needs

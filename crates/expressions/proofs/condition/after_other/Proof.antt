@@ -6,12 +6,6 @@ use Rattle.expressions.proofs.Relations.{related, none-other}
 use borrow.Author.Needs.{needs}
 use Rattle.expressions.proofs.condition.after_other.Statement.{statement}
 use Rattle.expressions.proofs.condition.after_other.Tie as tie
-use Rattle.expressions.proofs.condition.after_other.Reads as reads
-use Rattle.expressions.proofs.condition.after_other.Lts as lts
-use Rattle.expressions.proofs.condition.push_against.Reads as push-against-reads
-use Rattle.expressions.proofs.condition.push_flags.Reads as push-flags-reads
-use Rattle.operand.proofs.operand.op.Reads as op-reads
-use Rattle.x86.proofs.conditions.relation_after_other.Reads as relation-after-other-reads
 
 relation-after-other-requires : tie.Need-relation-after-other-requires
 relation-after-other-requires c κs = search needs

@@ -6,12 +6,6 @@ use Rattle.expressions.proofs.Relations.{related, none-test}
 use borrow.Author.Needs.{needs}
 use Rattle.expressions.proofs.condition.after_test.Statement.{statement}
 use Rattle.expressions.proofs.condition.after_test.Tie as tie
-use Rattle.expressions.proofs.condition.after_test.Reads as reads
-use Rattle.expressions.proofs.condition.after_test.Lts as lts
-use Rattle.expressions.proofs.condition.push_against.Reads as push-against-reads
-use Rattle.expressions.proofs.condition.push_flags.Reads as push-flags-reads
-use Rattle.expressions.proofs.condition.push_tested.Reads as push-tested-reads
-use Rattle.x86.proofs.conditions.relation_after_test.Reads as relation-after-test-reads
 
 relation-after-test-requires : tie.Need-relation-after-test-requires
 relation-after-test-requires c κs = search needs

@@ -6,12 +6,6 @@ use Rattle.expressions.proofs.Relations.{by-cmp, by-test, by-other}
 use borrow.Author.Needs.{needs}
 use Rattle.expressions.proofs.condition.after_writer.Statement.{statement}
 use Rattle.expressions.proofs.condition.after_writer.Tie as tie
-use Rattle.expressions.proofs.condition.after_writer.Reads as reads
-use Rattle.expressions.proofs.condition.after_writer.Lts as lts
-use Rattle.expressions.proofs.condition.after_cmp.Reads as after-cmp-reads
-use Rattle.expressions.proofs.condition.after_other.Reads as after-other-reads
-use Rattle.expressions.proofs.condition.after_test.Reads as after-test-reads
-use Rattle.record.proofs.body.mnemonic.Reads as mnemonic-reads
 
 mnemonic-requires : tie.Need-mnemonic-requires
 mnemonic-requires c κs = search needs

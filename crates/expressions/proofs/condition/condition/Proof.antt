@@ -9,14 +9,6 @@ use lib.ListN.{drop}
 use borrow.Author.Needs.{needs}
 use Rattle.expressions.proofs.condition.condition.Statement.{statement}
 use Rattle.expressions.proofs.condition.condition.Tie as tie
-use Rattle.expressions.proofs.condition.condition.Reads as reads
-use Rattle.expressions.proofs.condition.condition.Lts as lts
-use Rattle.expressions.proofs.condition.after_writer.Reads as after-writer-reads
-use Rattle.expressions.proofs.condition.flag_writer.Reads as flag-writer-reads
-use Rattle.expressions.proofs.condition.push_flags.Reads as push-flags-reads
-use Rattle.lists.proofs.reads.from.Reads as from-reads
-use Rattle.record.proofs.body.body_at.Reads as body-at-reads
-use Rattle.record.proofs.layout.bodies_at.Reads as bodies-at-reads
 
 bodies-at-requires : tie.Need-bodies-at-requires
 bodies-at-requires c κs = search needs

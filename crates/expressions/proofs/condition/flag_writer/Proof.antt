@@ -8,11 +8,6 @@ use Rattle.expressions.specs.Condition.{flagWriter}
 use Rattle.expressions.proofs.Search.{writer-step, writer-none}
 use Rattle.expressions.proofs.condition.flag_writer.Statement.{statement}
 use Rattle.expressions.proofs.condition.flag_writer.Tie as tie
-use Rattle.expressions.proofs.condition.flag_writer.Reads as reads
-use Rattle.expressions.proofs.condition.flag_writer.Lts as lts
-use Rattle.record.proofs.body.body_at.Reads as body-at-reads
-use Rattle.record.proofs.body.mnemonic.Reads as mnemonic-reads
-use Rattle.x86.proofs.mnemonics.writes_flags.Reads as writes-flags-reads
 
 abbrev Inv-loop : tie.InvT-loop
 Inv-loop isa bodies first i k₀ k = (k ≤ i) × (flagWriter bodies first (k - first) ≡ flagWriter bodies first (i - first))

@@ -6,10 +6,6 @@ use Rattle.expressions.proofs.Relations.{one, then}
 use borrow.Author.Needs.{needs}
 use Rattle.expressions.proofs.condition.push_against.Statement.{statement}
 use Rattle.expressions.proofs.condition.push_against.Tie as tie
-use Rattle.expressions.proofs.condition.push_against.Reads as reads
-use Rattle.expressions.proofs.condition.push_against.Lts as lts
-use Rattle.tokens.proofs.push.push_num.Reads as push-num-reads
-use Rattle.tokens.proofs.push.push_word.Reads as push-word-reads
 
 add-push-word : tie.Need-add-push-word
 add-push-word c = search needs

@@ -6,10 +6,6 @@ use Rattle.expressions.proofs.Relations.{both}
 use borrow.Author.Needs.{needs}
 use Rattle.expressions.proofs.condition.push_and.Statement.{statement}
 use Rattle.expressions.proofs.condition.push_and.Tie as tie
-use Rattle.expressions.proofs.condition.push_and.Reads as reads
-use Rattle.expressions.proofs.condition.push_and.Lts as lts
-use Rattle.operand.proofs.operand.op.Reads as op-reads
-use Rattle.tokens.proofs.push.push_word.Reads as push-word-reads
 
 op-requires : tie.Need-op-requires
 op-requires c κs = search needs

@@ -6,10 +6,6 @@ use Rattle.expressions.proofs.Relations.{wrapped}
 use borrow.Author.Needs.{needs}
 use Rattle.expressions.proofs.condition.push_both.Statement.{statement}
 use Rattle.expressions.proofs.condition.push_both.Tie as tie
-use Rattle.expressions.proofs.condition.push_both.Reads as reads
-use Rattle.expressions.proofs.condition.push_both.Lts as lts
-use Rattle.expressions.proofs.condition.push_and.Reads as push-and-reads
-use Rattle.tokens.proofs.push.push_word.Reads as push-word-reads
 
 push-word-requires : tie.Need-push-word-requires
 push-word-requires c κs = search needs

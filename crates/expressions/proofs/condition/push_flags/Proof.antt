@@ -8,9 +8,6 @@ use native.Mathlib.Omega.{arith}
 use borrow.Author.Needs.{needs}
 use Rattle.expressions.proofs.condition.push_flags.Statement.{statement}
 use Rattle.expressions.proofs.condition.push_flags.Tie as tie
-use Rattle.expressions.proofs.condition.push_flags.Reads as reads
-use Rattle.expressions.proofs.condition.push_flags.Lts as lts
-use Rattle.tokens.proofs.push.push_word.Reads as push-word-reads
 
 add-push-word : tie.Need-add-push-word
 add-push-word c = search needs

@@ -6,11 +6,6 @@ use Rattle.expressions.proofs.Relations.{tested-one, tested-both}
 use borrow.Author.Needs.{needs}
 use Rattle.expressions.proofs.condition.push_tested.Statement.{statement}
 use Rattle.expressions.proofs.condition.push_tested.Tie as tie
-use Rattle.expressions.proofs.condition.push_tested.Reads as reads
-use Rattle.expressions.proofs.condition.push_tested.Lts as lts
-use Rattle.expressions.proofs.condition.push_both.Reads as push-both-reads
-use Rattle.operand.proofs.alike.alike.Reads as alike-reads
-use Rattle.operand.proofs.operand.op.Reads as op-reads
 
 alike-requires : tie.Need-alike-requires
 alike-requires c κs = search needs

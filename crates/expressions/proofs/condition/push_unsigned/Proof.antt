@@ -6,11 +6,6 @@ use Rattle.expressions.proofs.Relations.{as-unsigned, as-it-is}
 use borrow.Author.Needs.{needs}
 use Rattle.expressions.proofs.condition.push_unsigned.Statement.{statement}
 use Rattle.expressions.proofs.condition.push_unsigned.Tie as tie
-use Rattle.expressions.proofs.condition.push_unsigned.Reads as reads
-use Rattle.expressions.proofs.condition.push_unsigned.Lts as lts
-use Rattle.operand.proofs.operand.op.Reads as op-reads
-use Rattle.tokens.proofs.push.push_word.Reads as push-word-reads
-use Rattle.x86.proofs.conditions.prints_unsigned.Reads as prints-unsigned-reads
 
 prints-unsigned-requires : tie.Need-prints-unsigned-requires
 prints-unsigned-requires c κs = search needs

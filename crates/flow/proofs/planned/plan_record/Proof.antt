@@ -15,16 +15,6 @@ use Rattle.flow.proofs.Row.{array}
 use borrow.Author.Needs.{needs}
 use Rattle.flow.proofs.planned.plan_record.Statement.{statement}
 use Rattle.flow.proofs.planned.plan_record.Tie as tie
-use Rattle.flow.proofs.planned.plan_record.Reads as reads
-use Rattle.flow.proofs.planned.plan_record.Lts as lts
-use Rattle.flow.proofs.rows.edge_rows.Reads as edge-rows-reads
-use Rattle.flow.proofs.rows.shown_rows.Reads as shown-rows-reads
-use Rattle.lists.proofs.parts.part.Reads as part-reads
-use Rattle.lists.proofs.parts.part_u16.Reads as part-u16-reads
-use Rattle.lists.proofs.reads.from.Reads as from-reads
-use Rattle.record.proofs.layout.size.Reads as size-reads
-use Rattle.record.proofs.layout.targets_at.Reads as targets-at-reads
-use Rattle.structure.proofs.plan.plan.Reads as plan-reads
 
 -- the plan of equal parts
 same : (b b′ d d′ v v′ st st′ t t′ : List ℕ) (n i j k r : ℕ) (l l′ : List ℕ) → Stored l 0 (planCodes b d v st t n i j k) r l′ → b ≡ b′ → d ≡ d′ → v ≡ v′ → st ≡ st′ → t ≡ t′

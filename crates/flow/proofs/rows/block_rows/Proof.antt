@@ -13,16 +13,6 @@ use Rattle.flow.proofs.Storing.{Left, left-all, left-length, left-step,
 use Rattle.flow.proofs.Row.{array, row-stored}
 use Rattle.flow.proofs.rows.block_rows.Statement.{statement}
 use Rattle.flow.proofs.rows.block_rows.Tie as tie
-use Rattle.flow.proofs.rows.block_rows.Reads as reads
-use Rattle.flow.proofs.rows.block_rows.Lts as lts
-use Rattle.flow.proofs.rows.put_ending.Reads as put-ending-reads
-use Rattle.flow.proofs.rows.put_four.Reads as put-four-reads
-use Rattle.flow.proofs.rows.rises_in.Reads as rises-in-reads
-use Rattle.lists.proofs.reads.from.Reads as from-reads
-use Rattle.record.proofs.blocks.edges_in.Reads as edges-in-reads
-use Rattle.record.proofs.blocks.instructions_in.Reads as instructions-in-reads
-use Rattle.record.proofs.layout.marks_at.Reads as marks-at-reads
-use Rattle.record.proofs.layout.size.Reads as size-reads
 
 abbrev Inv-loop : tie.InvT-loop
 Inv-loop rec h out₀ rises marks first₀ edge₀ k₀ out first edge k =

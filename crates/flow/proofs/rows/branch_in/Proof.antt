@@ -4,10 +4,6 @@ use borrow.Author.Tests.{le-leb, lt-leb}
 use borrow.Author.Needs.{needs}
 use Rattle.flow.proofs.rows.branch_in.Statement.{statement}
 use Rattle.flow.proofs.rows.branch_in.Tie as tie
-use Rattle.flow.proofs.rows.branch_in.Reads as reads
-use Rattle.flow.proofs.rows.branch_in.Lts as lts
-use Rattle.flow.proofs.rows.place_of.Reads as place-of-reads
-use Rattle.record.proofs.body.op_number.Reads as op-number-reads
 
 op-number-requires : tie.Need-op-number-requires
 op-number-requires c κs = search needs

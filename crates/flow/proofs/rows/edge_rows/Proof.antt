@@ -10,17 +10,6 @@ use Rattle.flow.proofs.Storing.{Left, left-all, left-length, left-step,
 use Rattle.flow.proofs.Row.{array, edge-stored}
 use Rattle.flow.proofs.rows.edge_rows.Statement.{statement}
 use Rattle.flow.proofs.rows.edge_rows.Tie as tie
-use Rattle.flow.proofs.rows.edge_rows.Reads as reads
-use Rattle.flow.proofs.rows.edge_rows.Lts as lts
-use Rattle.flow.proofs.rows.place_of.Reads as place-of-reads
-use Rattle.flow.proofs.rows.put_two.Reads as put-two-reads
-use Rattle.flow.proofs.rows.rises_in.Reads as rises-in-reads
-use Rattle.lists.proofs.reads.from.Reads as from-reads
-use Rattle.record.proofs.blocks.edge_kind_at.Reads as edge-kind-at-reads
-use Rattle.record.proofs.blocks.target_at.Reads as target-at-reads
-use Rattle.record.proofs.layout.edge_kinds_at.Reads as edge-kinds-at-reads
-use Rattle.record.proofs.layout.size.Reads as size-reads
-use Rattle.record.proofs.layout.targets_at.Reads as targets-at-reads
 
 abbrev Inv-loop : tie.InvT-loop
 Inv-loop rec h out₀ rises targets kinds e₀ out e = (e ≤ h .edges) × (targets ≡ targetsOf h rec) × (kinds ≡ edgeKindsOf h rec) × Left (edgeRow h rec) (h .edges) out₀ (2 * e) out e

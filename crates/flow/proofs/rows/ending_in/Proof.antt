@@ -4,9 +4,6 @@ use borrow.Author.Tests.{eq-eqb, ne-eqb}
 use borrow.Author.Needs.{needs}
 use Rattle.flow.proofs.rows.ending_in.Statement.{statement}
 use Rattle.flow.proofs.rows.ending_in.Tie as tie
-use Rattle.flow.proofs.rows.ending_in.Reads as reads
-use Rattle.flow.proofs.rows.ending_in.Lts as lts
-use Rattle.flow.proofs.silent.ending_of.Reads as ending-of-reads
 
 returns : tie.Need-returns
 returns c = simp (eq-eqb _ _ (c .if1 .taken))

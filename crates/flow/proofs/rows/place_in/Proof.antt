@@ -8,9 +8,6 @@ use Rattle.record.specs.SearchLaws.{find-all, find-here, find-next, find-none}
 use Rattle.flow.specs.Rows.{placeFound}
 use Rattle.flow.proofs.rows.place_in.Statement.{statement}
 use Rattle.flow.proofs.rows.place_in.Tie as tie
-use Rattle.flow.proofs.rows.place_in.Reads as reads
-use Rattle.flow.proofs.rows.place_in.Lts as lts
-use Rattle.record.proofs.blocks.start_at.Reads as start-at-reads
 
 abbrev Inv-loop : tie.InvT-loop
 Inv-loop starts blocks va place₀ place = (place ≤ blocks) × (findFrom starts va place (blocks - place) ≡ findFrom starts va 0 blocks)

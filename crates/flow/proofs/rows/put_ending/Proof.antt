@@ -4,18 +4,6 @@ use Rattle.flow.proofs.Row.{array, ending-stored}
 use borrow.Author.Needs.{needs}
 use Rattle.flow.proofs.rows.put_ending.Statement.{statement}
 use Rattle.flow.proofs.rows.put_ending.Tie as tie
-use Rattle.flow.proofs.rows.put_ending.Reads as reads
-use Rattle.flow.proofs.rows.put_ending.Lts as lts
-use Rattle.flow.proofs.rows.branch_in.Reads as branch-in-reads
-use Rattle.flow.proofs.rows.ending_in.Reads as ending-in-reads
-use Rattle.flow.proofs.rows.last_at.Reads as last-at-reads
-use Rattle.flow.proofs.rows.put_four.Reads as put-four-reads
-use Rattle.lists.proofs.reads.from.Reads as from-reads
-use Rattle.record.proofs.blocks.label_mark.Reads as label-mark-reads
-use Rattle.record.proofs.body.body_at.Reads as body-at-reads
-use Rattle.record.proofs.layout.bodies_at.Reads as bodies-at-reads
-use Rattle.record.proofs.layout.marks_at.Reads as marks-at-reads
-use Rattle.record.proofs.layout.size.Reads as size-reads
 
 marks-at-requires : tie.Need-marks-at-requires
 marks-at-requires c κs = search needs

@@ -4,9 +4,6 @@ use Rattle.flow.proofs.Storing.{put-four}
 use borrow.Author.Needs.{needs}
 use Rattle.flow.proofs.rows.put_four.Statement.{statement}
 use Rattle.flow.proofs.rows.put_four.Tie as tie
-use Rattle.flow.proofs.rows.put_four.Reads as reads
-use Rattle.flow.proofs.rows.put_four.Lts as lts
-use Rattle.flow.proofs.rows.put_two.Reads as put-two-reads
 
 put-two-requires : tie.Need-put-two-requires
 put-two-requires c κs = search needs

@@ -4,9 +4,6 @@ use Rattle.flow.proofs.Storing.{put-two}
 use borrow.Author.Needs.{needs}
 use Rattle.flow.proofs.rows.put_two.Statement.{statement}
 use Rattle.flow.proofs.rows.put_two.Tie as tie
-use Rattle.flow.proofs.rows.put_two.Reads as reads
-use Rattle.flow.proofs.rows.put_two.Lts as lts
-use Rattle.lists.proofs.stores.store_u16.Reads as store-u16-reads
 
 store-u16-requires : tie.Need-store-u16-requires
 store-u16-requires c κs = search needs

@@ -3,10 +3,6 @@
 use borrow.Author.Needs.{needs}
 use Rattle.flow.proofs.rows.rises_in.Statement.{statement}
 use Rattle.flow.proofs.rows.rises_in.Tie as tie
-use Rattle.flow.proofs.rows.rises_in.Reads as reads
-use Rattle.flow.proofs.rows.rises_in.Lts as lts
-use Rattle.lists.proofs.reads.from.Reads as from-reads
-use Rattle.record.proofs.blocks.starts_rise.Reads as starts-rise-reads
 
 from-requires : tie.Need-from-requires
 from-requires c κs = search needs

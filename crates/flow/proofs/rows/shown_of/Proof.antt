@@ -4,9 +4,6 @@ use mathlib.Core.Path.{sym}
 use borrow.Author.Needs.{needs}
 use Rattle.flow.proofs.rows.shown_of.Statement.{statement}
 use Rattle.flow.proofs.rows.shown_of.Tie as tie
-use Rattle.flow.proofs.rows.shown_of.Reads as reads
-use Rattle.flow.proofs.rows.shown_of.Lts as lts
-use Rattle.flow.proofs.silent.is_quiet.Reads as is-quiet-reads
 
 is-quiet-requires : tie.Need-is-quiet-requires
 is-quiet-requires c κs = search needs

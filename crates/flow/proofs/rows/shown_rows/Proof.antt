@@ -10,14 +10,6 @@ use Rattle.flow.proofs.Storing.{Left, left-all, left-length, left-step,
 use Rattle.flow.proofs.Row.{array, shown-stored}
 use Rattle.flow.proofs.rows.shown_rows.Statement.{statement}
 use Rattle.flow.proofs.rows.shown_rows.Tie as tie
-use Rattle.flow.proofs.rows.shown_rows.Reads as reads
-use Rattle.flow.proofs.rows.shown_rows.Lts as lts
-use Rattle.flow.proofs.rows.shown_of.Reads as shown-of-reads
-use Rattle.lists.proofs.reads.from.Reads as from-reads
-use Rattle.lists.proofs.stores.store.Reads as store-reads
-use Rattle.record.proofs.body.body_at.Reads as body-at-reads
-use Rattle.record.proofs.layout.bodies_at.Reads as bodies-at-reads
-use Rattle.record.proofs.layout.size.Reads as size-reads
 
 abbrev Inv-loop : tie.InvT-loop
 Inv-loop isa rec h out₀ bodies i₀ out i = (i ≤ h .instructions) × (bodies ≡ bodiesOf h rec) × Left (shownRow h rec) (h .instructions) out₀ i out i

@@ -6,11 +6,6 @@ use Rattle.flow.specs.Silent.{endingOf}
 use borrow.Author.Needs.{needs}
 use Rattle.flow.proofs.silent.ending_of.Statement.{statement}
 use Rattle.flow.proofs.silent.ending_of.Tie as tie
-use Rattle.flow.proofs.silent.ending_of.Reads as reads
-use Rattle.flow.proofs.silent.ending_of.Lts as lts
-use Rattle.flow.proofs.silent.is_direct_jmp.Reads as is-direct-jmp-reads
-use Rattle.record.proofs.body.condition_code.Reads as condition-code-reads
-use Rattle.record.proofs.body.op_kind.Reads as op-kind-reads
 
 condition-code-requires : tie.Need-condition-code-requires
 condition-code-requires c κs = search needs

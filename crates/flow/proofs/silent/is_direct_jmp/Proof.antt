@@ -3,10 +3,6 @@
 use borrow.Author.Needs.{needs}
 use Rattle.flow.proofs.silent.is_direct_jmp.Statement.{statement}
 use Rattle.flow.proofs.silent.is_direct_jmp.Tie as tie
-use Rattle.flow.proofs.silent.is_direct_jmp.Reads as reads
-use Rattle.flow.proofs.silent.is_direct_jmp.Lts as lts
-use Rattle.record.proofs.body.mnemonic.Reads as mnemonic-reads
-use Rattle.record.proofs.body.op_kind.Reads as op-kind-reads
 
 mnemonic-requires : tie.Need-mnemonic-requires
 mnemonic-requires c κs = search needs

@@ -3,8 +3,6 @@
 use mathlib.Core.Bool.{or-assoc, or-false}
 use Rattle.flow.proofs.silent.is_folded.Statement.{statement}
 use Rattle.flow.proofs.silent.is_folded.Tie as tie
-use Rattle.flow.proofs.silent.is_folded.Reads as reads
-use Rattle.flow.proofs.silent.is_folded.Lts as lts
 
 returns : tie.Need-returns
 returns c = simp (or-assoc, or-false)

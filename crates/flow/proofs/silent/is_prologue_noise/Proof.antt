@@ -10,17 +10,6 @@ use Rattle.record.specs.Body.{mnemonicOf, operandRegister}
 use borrow.Author.Needs.{needs}
 use Rattle.flow.proofs.silent.is_prologue_noise.Statement.{statement}
 use Rattle.flow.proofs.silent.is_prologue_noise.Tie as tie
-use Rattle.flow.proofs.silent.is_prologue_noise.Reads as reads
-use Rattle.flow.proofs.silent.is_prologue_noise.Lts as lts
-use Rattle.flow.proofs.silent.either.Reads as either-reads
-use Rattle.flow.proofs.silent.is_padding.Reads as is-padding-reads
-use Rattle.flow.proofs.silent.is_sp.Reads as is-sp-reads
-use Rattle.flow.proofs.silent.moves_frame.Reads as moves-frame-reads
-use Rattle.flow.proofs.silent.register_first.Reads as register-first-reads
-use Rattle.record.proofs.body.mnemonic.Reads as mnemonic-reads
-use Rattle.record.proofs.body.op_kind.Reads as op-kind-reads
-use Rattle.record.proofs.body.op_register.Reads as op-register-reads
-use Rattle.x86.proofs.registers.callee_saved.Reads as callee-saved-reads
 
 noise-mov : (frame : ℕ) (b : List ℕ) {x y : Bool} → x ≡ registerFirst b → y ≡ movesFrame frame b → mnemonicOf b ≡ mov → (x && y) ≡ isPrologueNoise frame b
 unfolding isPrologueNoise

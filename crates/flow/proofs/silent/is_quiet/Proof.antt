@@ -4,12 +4,6 @@ use Rattle.flow.specs.Silent.{isQuiet}
 use borrow.Author.Needs.{needs}
 use Rattle.flow.proofs.silent.is_quiet.Statement.{statement}
 use Rattle.flow.proofs.silent.is_quiet.Tie as tie
-use Rattle.flow.proofs.silent.is_quiet.Reads as reads
-use Rattle.flow.proofs.silent.is_quiet.Lts as lts
-use Rattle.flow.proofs.silent.is_direct_jmp.Reads as is-direct-jmp-reads
-use Rattle.flow.proofs.silent.is_folded.Reads as is-folded-reads
-use Rattle.flow.proofs.silent.is_skipped.Reads as is-skipped-reads
-use Rattle.record.proofs.body.mnemonic.Reads as mnemonic-reads
 
 is-skipped-requires : tie.Need-is-skipped-requires
 is-skipped-requires c κs = search needs

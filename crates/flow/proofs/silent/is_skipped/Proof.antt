@@ -3,10 +3,6 @@
 use borrow.Author.Needs.{needs}
 use Rattle.flow.proofs.silent.is_skipped.Statement.{statement}
 use Rattle.flow.proofs.silent.is_skipped.Tie as tie
-use Rattle.flow.proofs.silent.is_skipped.Reads as reads
-use Rattle.flow.proofs.silent.is_skipped.Lts as lts
-use Rattle.flow.proofs.silent.is_prologue_noise.Reads as is-prologue-noise-reads
-use Rattle.record.proofs.body.skip_mark.Reads as skip-mark-reads
 
 skip-mark-requires : tie.Need-skip-mark-requires
 skip-mark-requires c κs = search needs

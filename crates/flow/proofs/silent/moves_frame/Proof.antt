@@ -3,11 +3,6 @@
 use borrow.Author.Needs.{needs}
 use Rattle.flow.proofs.silent.moves_frame.Statement.{statement}
 use Rattle.flow.proofs.silent.moves_frame.Tie as tie
-use Rattle.flow.proofs.silent.moves_frame.Reads as reads
-use Rattle.flow.proofs.silent.moves_frame.Lts as lts
-use Rattle.flow.proofs.silent.is_sp.Reads as is-sp-reads
-use Rattle.record.proofs.body.op_kind.Reads as op-kind-reads
-use Rattle.record.proofs.body.op_register.Reads as op-register-reads
 
 op-register-requires : tie.Need-op-register-requires
 op-register-requires c κs = search needs

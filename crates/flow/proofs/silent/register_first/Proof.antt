@@ -3,9 +3,6 @@
 use borrow.Author.Needs.{needs}
 use Rattle.flow.proofs.silent.register_first.Statement.{statement}
 use Rattle.flow.proofs.silent.register_first.Tie as tie
-use Rattle.flow.proofs.silent.register_first.Reads as reads
-use Rattle.flow.proofs.silent.register_first.Lts as lts
-use Rattle.record.proofs.body.op_kind.Reads as op-kind-reads
 
 op-kind-requires : tie.Need-op-kind-requires
 op-kind-requires c κs = search needs

@@ -7,10 +7,6 @@ use Rattle.line.specs.Forms.{callForm}
 use borrow.Author.Needs.{needs}
 use Rattle.line.proofs.forms.call_form.Statement.{statement}
 use Rattle.line.proofs.forms.call_form.Tie as tie
-use Rattle.line.proofs.forms.call_form.Reads as reads
-use Rattle.line.proofs.forms.call_form.Lts as lts
-use Rattle.record.proofs.body.memory_base.Reads as memory-base-reads
-use Rattle.record.proofs.body.op_kind.Reads as op-kind-reads
 
 op-kind-requires : tie.Need-op-kind-requires
 op-kind-requires c κs = search needs

@@ -7,10 +7,6 @@ use Rattle.line.specs.Forms.{castForm}
 use borrow.Author.Needs.{needs}
 use Rattle.line.proofs.forms.cast_form.Statement.{statement}
 use Rattle.line.proofs.forms.cast_form.Tie as tie
-use Rattle.line.proofs.forms.cast_form.Reads as reads
-use Rattle.line.proofs.forms.cast_form.Lts as lts
-use Rattle.record.proofs.body.op_register.Reads as op-register-reads
-use Rattle.x86.proofs.registers.register_size.Reads as register-size-reads
 
 op-register-requires : tie.Need-op-register-requires
 op-register-requires c κs = search needs

@@ -6,8 +6,6 @@ use borrow.Author.Tests.{eq-eqb, ne-eqb, le-leb, lt-leb, lt-ltb, le-ltb}
 use Rattle.line.specs.Forms.{imulForm}
 use Rattle.line.proofs.forms.imul_form.Statement.{statement}
 use Rattle.line.proofs.forms.imul_form.Tie as tie
-use Rattle.line.proofs.forms.imul_form.Reads as reads
-use Rattle.line.proofs.forms.imul_form.Lts as lts
 
 returns : tie.Need-returns
 unfolding imulForm

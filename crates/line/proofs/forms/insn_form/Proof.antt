@@ -7,18 +7,6 @@ use Rattle.line.specs.Forms.{insnForm}
 use borrow.Author.Needs.{needs}
 use Rattle.line.proofs.forms.insn_form.Statement.{statement}
 use Rattle.line.proofs.forms.insn_form.Tie as tie
-use Rattle.line.proofs.forms.insn_form.Reads as reads
-use Rattle.line.proofs.forms.insn_form.Lts as lts
-use Rattle.line.proofs.forms.call_form.Reads as call-form-reads
-use Rattle.line.proofs.forms.cast_form.Reads as cast-form-reads
-use Rattle.line.proofs.forms.imul_form.Reads as imul-form-reads
-use Rattle.line.proofs.forms.jump_form.Reads as jump-form-reads
-use Rattle.line.proofs.forms.logic_form.Reads as logic-form-reads
-use Rattle.line.proofs.forms.plain_form.Reads as plain-form-reads
-use Rattle.line.proofs.forms.return_form.Reads as return-form-reads
-use Rattle.line.proofs.forms.xchg_form.Reads as xchg-form-reads
-use Rattle.record.proofs.body.mnemonic.Reads as mnemonic-reads
-use Rattle.record.proofs.body.op_count.Reads as op-count-reads
 
 mnemonic-requires : tie.Need-mnemonic-requires
 mnemonic-requires c κs = search needs

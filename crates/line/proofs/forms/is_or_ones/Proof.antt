@@ -6,12 +6,6 @@ use borrow.Author.Tests.{eq-eqb, ne-eqb, le-leb, lt-leb, lt-ltb, le-ltb}
 use borrow.Author.Needs.{needs}
 use Rattle.line.proofs.forms.is_or_ones.Statement.{statement}
 use Rattle.line.proofs.forms.is_or_ones.Tie as tie
-use Rattle.line.proofs.forms.is_or_ones.Reads as reads
-use Rattle.line.proofs.forms.is_or_ones.Lts as lts
-use Rattle.record.proofs.body.memory_size.Reads as memory-size-reads
-use Rattle.record.proofs.body.op_count.Reads as op-count-reads
-use Rattle.record.proofs.body.op_kind.Reads as op-kind-reads
-use Rattle.record.proofs.body.op_number.Reads as op-number-reads
 
 op-number-requires : tie.Need-op-number-requires
 op-number-requires c κs = search needs

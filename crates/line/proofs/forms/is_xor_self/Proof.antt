@@ -6,11 +6,6 @@ use borrow.Author.Tests.{eq-eqb, ne-eqb, le-leb, lt-leb, lt-ltb, le-ltb}
 use borrow.Author.Needs.{needs}
 use Rattle.line.proofs.forms.is_xor_self.Statement.{statement}
 use Rattle.line.proofs.forms.is_xor_self.Tie as tie
-use Rattle.line.proofs.forms.is_xor_self.Reads as reads
-use Rattle.line.proofs.forms.is_xor_self.Lts as lts
-use Rattle.record.proofs.body.op_count.Reads as op-count-reads
-use Rattle.record.proofs.body.op_kind.Reads as op-kind-reads
-use Rattle.record.proofs.body.op_register.Reads as op-register-reads
 
 op-count-requires : tie.Need-op-count-requires
 op-count-requires c κs = search needs

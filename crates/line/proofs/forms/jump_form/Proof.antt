@@ -7,9 +7,6 @@ use Rattle.line.specs.Forms.{jumpForm}
 use borrow.Author.Needs.{needs}
 use Rattle.line.proofs.forms.jump_form.Statement.{statement}
 use Rattle.line.proofs.forms.jump_form.Tie as tie
-use Rattle.line.proofs.forms.jump_form.Reads as reads
-use Rattle.line.proofs.forms.jump_form.Lts as lts
-use Rattle.record.proofs.body.op_kind.Reads as op-kind-reads
 
 op-kind-requires : tie.Need-op-kind-requires
 op-kind-requires c κs = search needs

@@ -7,13 +7,6 @@ use Rattle.line.specs.Forms.{leavesValue}
 use borrow.Author.Needs.{needs}
 use Rattle.line.proofs.forms.leaves_value.Statement.{statement}
 use Rattle.line.proofs.forms.leaves_value.Tie as tie
-use Rattle.line.proofs.forms.leaves_value.Reads as reads
-use Rattle.line.proofs.forms.leaves_value.Lts as lts
-use Rattle.record.proofs.body.mnemonic.Reads as mnemonic-reads
-use Rattle.record.proofs.body.op_count.Reads as op-count-reads
-use Rattle.record.proofs.body.op_kind.Reads as op-kind-reads
-use Rattle.record.proofs.body.op_register.Reads as op-register-reads
-use Rattle.x86.proofs.registers.full_register.Reads as full-register-reads
 
 op-count-requires : tie.Need-op-count-requires
 op-count-requires c κs = search needs

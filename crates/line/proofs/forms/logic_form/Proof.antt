@@ -7,12 +7,6 @@ use Rattle.line.specs.Forms.{logicForm}
 use borrow.Author.Needs.{needs}
 use Rattle.line.proofs.forms.logic_form.Statement.{statement}
 use Rattle.line.proofs.forms.logic_form.Tie as tie
-use Rattle.line.proofs.forms.logic_form.Reads as reads
-use Rattle.line.proofs.forms.logic_form.Lts as lts
-use Rattle.line.proofs.forms.is_and_zero.Reads as is-and-zero-reads
-use Rattle.line.proofs.forms.is_or_ones.Reads as is-or-ones-reads
-use Rattle.line.proofs.forms.is_xor_self.Reads as is-xor-self-reads
-use Rattle.line.proofs.forms.plain_form.Reads as plain-form-reads
 
 is-xor-self-requires : tie.Need-is-xor-self-requires
 is-xor-self-requires c κs = search needs

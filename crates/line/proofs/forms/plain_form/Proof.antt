@@ -6,8 +6,6 @@ use Rattle.line.specs.Forms.{plainForm}
 use borrow.Author.Needs.{needs}
 use Rattle.line.proofs.forms.plain_form.Statement.{statement}
 use Rattle.line.proofs.forms.plain_form.Tie as tie
-use Rattle.line.proofs.forms.plain_form.Reads as reads
-use Rattle.line.proofs.forms.plain_form.Lts as lts
 
 array-read-result : tie.Need-array-read-result
 array-read-result c = search needs

@@ -10,9 +10,6 @@ use Rattle.lists.specs.Below.{any-found, any-goes-on}
 use Rattle.line.specs.Forms.{valueBefore, returnsValue}
 use Rattle.line.proofs.forms.returns_value.Statement.{statement}
 use Rattle.line.proofs.forms.returns_value.Tie as tie
-use Rattle.line.proofs.forms.returns_value.Reads as reads
-use Rattle.line.proofs.forms.returns_value.Lts as lts
-use Rattle.line.proofs.forms.value_before.Reads as value-before-reads
 
 abbrev Inv-loop : tie.InvT-loop
 Inv-loop isa bodies first i k₀ k = (k ≤ 6) × (anyBelow (valueBefore bodies first i) k ≡ false)

@@ -7,10 +7,6 @@ use Rattle.line.specs.Forms.{valueBefore}
 use borrow.Author.Needs.{needs}
 use Rattle.line.proofs.forms.value_before.Statement.{statement}
 use Rattle.line.proofs.forms.value_before.Tie as tie
-use Rattle.line.proofs.forms.value_before.Reads as reads
-use Rattle.line.proofs.forms.value_before.Lts as lts
-use Rattle.line.proofs.forms.leaves_value.Reads as leaves-value-reads
-use Rattle.record.proofs.body.body_at.Reads as body-at-reads
 
 add-if1 : tie.Need-add-if1
 add-if1 c = search needs

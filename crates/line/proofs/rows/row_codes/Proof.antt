@@ -8,10 +8,6 @@ use Rattle.line.proofs.RowTable.{codes-in}
 use borrow.Author.Needs.{needs}
 use Rattle.line.proofs.rows.row_codes.Statement.{statement}
 use Rattle.line.proofs.rows.row_codes.Tie as tie
-use Rattle.line.proofs.rows.row_codes.Reads as reads
-use Rattle.line.proofs.rows.row_codes.Lts as lts
-use Rattle.lists.proofs.parts.part.Reads as part-reads
-use Rattle.lists.proofs.reads.u8_at.Reads as u8-at-reads
 
 mul-k : tie.Need-mul-k
 mul-k c = search needs

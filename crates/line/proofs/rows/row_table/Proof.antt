@@ -4,8 +4,6 @@ use mathlib.Core.Path.{refl}
 use Rattle.line.specs.Codes.{codes, rowBytes}
 use Rattle.line.proofs.rows.row_table.Statement.{statement}
 use Rattle.line.proofs.rows.row_table.Tie as tie
-use Rattle.line.proofs.rows.row_table.Reads as reads
-use Rattle.line.proofs.rows.row_table.Lts as lts
 
 returns : tie.Need-returns
 unfolding rowBytes codes

@@ -6,13 +6,6 @@ use Rattle.record.specs.Asked.{atlasAsked}
 use borrow.Author.Needs.{needs}
 use Rattle.record.proofs.asked.atlas_asked.Statement.{statement}
 use Rattle.record.proofs.asked.atlas_asked.Tie as tie
-use Rattle.record.proofs.asked.atlas_asked.Reads as reads
-use Rattle.record.proofs.asked.atlas_asked.Lts as lts
-use Rattle.lists.proofs.reads.from.Reads as from-reads
-use Rattle.record.proofs.atlas.atlas_ok.Reads as atlas-ok-reads
-use Rattle.record.proofs.layout.entries_at.Reads as entries-at-reads
-use Rattle.record.proofs.layout.pairs_at.Reads as pairs-at-reads
-use Rattle.record.proofs.layout.texts_at.Reads as texts-at-reads
 
 entries-at-requires : tie.Need-entries-at-requires
 entries-at-requires c κs = search needs

@@ -6,11 +6,6 @@ use Rattle.record.specs.Asked.{blocksNo}
 use borrow.Author.Needs.{needs}
 use Rattle.record.proofs.asked.blocks_no.Statement.{statement}
 use Rattle.record.proofs.asked.blocks_no.Tie as tie
-use Rattle.record.proofs.asked.blocks_no.Reads as reads
-use Rattle.record.proofs.asked.blocks_no.Lts as lts
-use Rattle.record.proofs.asked.edge_kinds_asked.Reads as edge-kinds-asked-reads
-use Rattle.record.proofs.asked.marks_asked.Reads as marks-asked-reads
-use Rattle.record.proofs.asked.starts_asked.Reads as starts-asked-reads
 
 marks-asked-requires : tie.Need-marks-asked-requires
 marks-asked-requires c κs = search needs

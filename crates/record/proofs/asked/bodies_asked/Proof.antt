@@ -6,12 +6,6 @@ use Rattle.record.specs.Asked.{bodiesAsked}
 use borrow.Author.Needs.{needs}
 use Rattle.record.proofs.asked.bodies_asked.Statement.{statement}
 use Rattle.record.proofs.asked.bodies_asked.Tie as tie
-use Rattle.record.proofs.asked.bodies_asked.Reads as reads
-use Rattle.record.proofs.asked.bodies_asked.Lts as lts
-use Rattle.lists.proofs.reads.from.Reads as from-reads
-use Rattle.record.proofs.body.bodies_ok.Reads as bodies-ok-reads
-use Rattle.record.proofs.layout.bodies_at.Reads as bodies-at-reads
-use Rattle.x86.proofs.registers.register_exists.Reads as register-exists-reads
 
 register-exists-requires : tie.Need-register-exists-requires
 register-exists-requires c κs = search needs

@@ -6,11 +6,6 @@ use Rattle.record.specs.Asked.{contentsNo}
 use borrow.Author.Needs.{needs}
 use Rattle.record.proofs.asked.contents_no.Statement.{statement}
 use Rattle.record.proofs.asked.contents_no.Tie as tie
-use Rattle.record.proofs.asked.contents_no.Reads as reads
-use Rattle.record.proofs.asked.contents_no.Lts as lts
-use Rattle.record.proofs.asked.atlas_asked.Reads as atlas-asked-reads
-use Rattle.record.proofs.asked.bodies_asked.Reads as bodies-asked-reads
-use Rattle.record.proofs.asked.spans_asked.Reads as spans-asked-reads
 
 bodies-asked-requires : tie.Need-bodies-asked-requires
 bodies-asked-requires c κs = search needs

@@ -6,11 +6,6 @@ use Rattle.record.specs.Asked.{edgeKindsAsked}
 use borrow.Author.Needs.{needs}
 use Rattle.record.proofs.asked.edge_kinds_asked.Statement.{statement}
 use Rattle.record.proofs.asked.edge_kinds_asked.Tie as tie
-use Rattle.record.proofs.asked.edge_kinds_asked.Reads as reads
-use Rattle.record.proofs.asked.edge_kinds_asked.Lts as lts
-use Rattle.lists.proofs.reads.from.Reads as from-reads
-use Rattle.record.proofs.blocks.edge_kinds_ok.Reads as edge-kinds-ok-reads
-use Rattle.record.proofs.layout.edge_kinds_at.Reads as edge-kinds-at-reads
 
 edge-kinds-at-requires : tie.Need-edge-kinds-at-requires
 edge-kinds-at-requires c κs = search needs

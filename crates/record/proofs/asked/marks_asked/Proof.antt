@@ -6,11 +6,6 @@ use Rattle.record.specs.Asked.{marksAsked}
 use borrow.Author.Needs.{needs}
 use Rattle.record.proofs.asked.marks_asked.Statement.{statement}
 use Rattle.record.proofs.asked.marks_asked.Tie as tie
-use Rattle.record.proofs.asked.marks_asked.Reads as reads
-use Rattle.record.proofs.asked.marks_asked.Lts as lts
-use Rattle.lists.proofs.reads.from.Reads as from-reads
-use Rattle.record.proofs.blocks.marks_ok.Reads as marks-ok-reads
-use Rattle.record.proofs.layout.marks_at.Reads as marks-at-reads
 
 marks-at-requires : tie.Need-marks-at-requires
 marks-at-requires c κs = search needs

@@ -6,8 +6,6 @@ use Rattle.record.specs.Asked.{rangeNo}
 use borrow.Author.Needs.{needs}
 use Rattle.record.proofs.asked.range_no.Statement.{statement}
 use Rattle.record.proofs.asked.range_no.Tie as tie
-use Rattle.record.proofs.asked.range_no.Reads as reads
-use Rattle.record.proofs.asked.range_no.Lts as lts
 
 cast-if1 : tie.Need-cast-if1
 cast-if1 c = search needs

@@ -9,13 +9,6 @@ use Rattle.record.proofs.Stages.{stops, goes-on, ends}
 use borrow.Author.Needs.{needs}
 use Rattle.record.proofs.asked.record.Statement.{statement}
 use Rattle.record.proofs.asked.record.Tie as tie
-use Rattle.record.proofs.asked.record.Reads as reads
-use Rattle.record.proofs.asked.record.Lts as lts
-use Rattle.record.proofs.asked.blocks_no.Reads as blocks-no-reads
-use Rattle.record.proofs.asked.contents_no.Reads as contents-no-reads
-use Rattle.record.proofs.asked.range_no.Reads as range-no-reads
-use Rattle.record.proofs.asked.sizes_no.Reads as sizes-no-reads
-use Rattle.record.proofs.header.read_header.Reads as read-header-reads
 
 sizes-no-requires : tie.Need-sizes-no-requires
 sizes-no-requires c κs = search needs

@@ -7,9 +7,6 @@ use Rattle.record.proofs.Stages.{number-is}
 use borrow.Author.Needs.{needs}
 use Rattle.record.proofs.asked.record_first_no.Statement.{statement}
 use Rattle.record.proofs.asked.record_first_no.Tie as tie
-use Rattle.record.proofs.asked.record_first_no.Reads as reads
-use Rattle.record.proofs.asked.record_first_no.Lts as lts
-use Rattle.record.proofs.asked.record.Reads as record-reads
 
 record-requires : tie.Need-record-requires
 record-requires c κs = search needs

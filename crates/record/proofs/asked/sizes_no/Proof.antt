@@ -7,12 +7,6 @@ use borrow.Author.Tests.{le-leb, lt-leb, eq-eqb, ne-eqb}
 use borrow.Author.Needs.{needs}
 use Rattle.record.proofs.asked.sizes_no.Statement.{statement}
 use Rattle.record.proofs.asked.sizes_no.Tie as tie
-use Rattle.record.proofs.asked.sizes_no.Reads as reads
-use Rattle.record.proofs.asked.sizes_no.Lts as lts
-use Rattle.record.proofs.header.fields_ok.Reads as fields-ok-reads
-use Rattle.record.proofs.header.limits_ok.Reads as limits-ok-reads
-use Rattle.record.proofs.header.read_header.Reads as read-header-reads
-use Rattle.record.proofs.layout.size_of.Reads as size-of-reads
 
 returns : tie.Need-returns
 unfolding sizesNo

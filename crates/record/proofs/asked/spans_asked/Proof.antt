@@ -6,11 +6,6 @@ use Rattle.record.specs.Asked.{spansAsked}
 use borrow.Author.Needs.{needs}
 use Rattle.record.proofs.asked.spans_asked.Statement.{statement}
 use Rattle.record.proofs.asked.spans_asked.Tie as tie
-use Rattle.record.proofs.asked.spans_asked.Reads as reads
-use Rattle.record.proofs.asked.spans_asked.Lts as lts
-use Rattle.lists.proofs.reads.from.Reads as from-reads
-use Rattle.record.proofs.atlas.spans_ok.Reads as spans-ok-reads
-use Rattle.record.proofs.layout.spans_at.Reads as spans-at-reads
 
 spans-at-requires : tie.Need-spans-at-requires
 spans-at-requires c κs = search needs

@@ -6,10 +6,6 @@ use Rattle.record.specs.Asked.{startsAsked}
 use borrow.Author.Needs.{needs}
 use Rattle.record.proofs.asked.starts_asked.Statement.{statement}
 use Rattle.record.proofs.asked.starts_asked.Tie as tie
-use Rattle.record.proofs.asked.starts_asked.Reads as reads
-use Rattle.record.proofs.asked.starts_asked.Lts as lts
-use Rattle.lists.proofs.reads.from.Reads as from-reads
-use Rattle.record.proofs.blocks.starts_differ.Reads as starts-differ-reads
 
 from-requires : tie.Need-from-requires
 from-requires c κs = search needs

@@ -6,11 +6,6 @@ use Rattle.record.specs.Atlas.{atlasOk}
 use borrow.Author.Needs.{needs}
 use Rattle.record.proofs.atlas.atlas_ok.Statement.{statement}
 use Rattle.record.proofs.atlas.atlas_ok.Tie as tie
-use Rattle.record.proofs.atlas.atlas_ok.Reads as reads
-use Rattle.record.proofs.atlas.atlas_ok.Lts as lts
-use Rattle.record.proofs.atlas.entries_ok.Reads as entries-ok-reads
-use Rattle.record.proofs.atlas.text_start.Reads as text-start-reads
-use Rattle.record.proofs.atlas.texts_ok.Reads as texts-ok-reads
 
 entries-ok-requires : tie.Need-entries-ok-requires
 entries-ok-requires c κs = search needs

@@ -12,11 +12,6 @@ use Rattle.lists.specs.Below.{all-more, sum-more}
 use Rattle.record.specs.Atlas.{entryAddress, entryKind, entryKindOk, rises, entriesOk}
 use Rattle.record.proofs.atlas.entries_ok.Statement.{statement}
 use Rattle.record.proofs.atlas.entries_ok.Tie as tie
-use Rattle.record.proofs.atlas.entries_ok.Reads as reads
-use Rattle.record.proofs.atlas.entries_ok.Lts as lts
-use Rattle.record.proofs.atlas.entry_address.Reads as entry-address-reads
-use Rattle.record.proofs.atlas.entry_kind.Reads as entry-kind-reads
-use Rattle.record.proofs.atlas.entry_kind_ok.Reads as entry-kind-ok-reads
 
 abbrev Inv-loop : tie.InvT-loop
 Inv-loop entries pairs atlas before₀ ok₀ k₀ before ok k =

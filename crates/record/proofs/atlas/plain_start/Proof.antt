@@ -8,8 +8,6 @@ use Rattle.record.specs.Atlas.{textStart}
 use Rattle.record.specs.Running.{text-more}
 use Rattle.record.proofs.atlas.plain_start.Statement.{statement}
 use Rattle.record.proofs.atlas.plain_start.Tie as tie
-use Rattle.record.proofs.atlas.plain_start.Reads as reads
-use Rattle.record.proofs.atlas.plain_start.Lts as lts
 
 abbrev Inv-loop : tie.InvT-loop
 Inv-loop pairs k sum₀ i₀ sum i = (i ≤ k) × (sum ≤ 255 * i) × (sum ≡ textStart pairs i)

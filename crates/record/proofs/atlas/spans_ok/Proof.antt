@@ -12,10 +12,6 @@ use Rattle.lists.specs.Below.{all-more, sum-more}
 use Rattle.record.specs.Atlas.{spanFirst, spanLast, spansOk}
 use Rattle.record.proofs.atlas.spans_ok.Statement.{statement}
 use Rattle.record.proofs.atlas.spans_ok.Tie as tie
-use Rattle.record.proofs.atlas.spans_ok.Reads as reads
-use Rattle.record.proofs.atlas.spans_ok.Lts as lts
-use Rattle.record.proofs.atlas.span_first.Reads as span-first-reads
-use Rattle.record.proofs.atlas.span_last.Reads as span-last-reads
 
 abbrev Inv-loop : tie.InvT-loop
 Inv-loop spans count ok₀ k₀ ok k = (k ≤ count) × (ok ≡ allBelow (λ j. leb (spanFirst spans j) (spanLast spans j)) k)

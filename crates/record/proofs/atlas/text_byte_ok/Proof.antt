@@ -3,8 +3,6 @@
 use borrow.Author.Tests.{eq-eqb, ne-eqb}
 use Rattle.record.proofs.atlas.text_byte_ok.Statement.{statement}
 use Rattle.record.proofs.atlas.text_byte_ok.Tie as tie
-use Rattle.record.proofs.atlas.text_byte_ok.Reads as reads
-use Rattle.record.proofs.atlas.text_byte_ok.Lts as lts
 
 returns : tie.Need-returns
 returns c = simp (eq-eqb _ _ (c .if1 .taken))

@@ -12,10 +12,6 @@ use Rattle.lists.specs.Below.{all-more, sum-more}
 use Rattle.record.specs.Atlas.{textByteOk, textOk}
 use Rattle.record.proofs.atlas.text_ok.Statement.{statement}
 use Rattle.record.proofs.atlas.text_ok.Tie as tie
-use Rattle.record.proofs.atlas.text_ok.Reads as reads
-use Rattle.record.proofs.atlas.text_ok.Lts as lts
-use Rattle.lists.proofs.reads.u8_at.Reads as u8-at-reads
-use Rattle.record.proofs.atlas.text_byte_ok.Reads as text-byte-ok-reads
 
 abbrev Inv-loop : tie.InvT-loop
 Inv-loop kind n text ok₀ j₀ ok j = (j ≤ n) × (ok ≡ allBelow (λ m. textByteOk kind (u8At text m)) j)

@@ -11,12 +11,6 @@ use Rattle.record.specs.Running.{text-more}
 use Rattle.record.specs.Atlas.{entryKind, entryLength, textStart, textOk, textsOk}
 use Rattle.record.proofs.atlas.texts_ok.Statement.{statement}
 use Rattle.record.proofs.atlas.texts_ok.Tie as tie
-use Rattle.record.proofs.atlas.texts_ok.Reads as reads
-use Rattle.record.proofs.atlas.texts_ok.Lts as lts
-use Rattle.lists.proofs.reads.from.Reads as from-reads
-use Rattle.record.proofs.atlas.entry_kind.Reads as entry-kind-reads
-use Rattle.record.proofs.atlas.entry_length.Reads as entry-length-reads
-use Rattle.record.proofs.atlas.text_ok.Reads as text-ok-reads
 
 abbrev Inv-loop : tie.InvT-loop
 Inv-loop pairs texts atlas at₀ ok₀ k₀ at ok k =

@@ -10,9 +10,6 @@ use Rattle.lists.specs.Below.{all-more}
 use Rattle.record.specs.Blocks.{edgeKindAt, edgeKindsOk}
 use Rattle.record.proofs.blocks.edge_kinds_ok.Statement.{statement}
 use Rattle.record.proofs.blocks.edge_kinds_ok.Tie as tie
-use Rattle.record.proofs.blocks.edge_kinds_ok.Reads as reads
-use Rattle.record.proofs.blocks.edge_kinds_ok.Lts as lts
-use Rattle.record.proofs.blocks.edge_kind_at.Reads as edge-kind-at-reads
 
 abbrev Inv-loop : tie.InvT-loop
 Inv-loop kinds edges ok₀ e₀ ok e = (e ≤ edges) × (ok ≡ allBelow (λ j. leb (edgeKindAt kinds j) 4) e)

@@ -10,11 +10,6 @@ use Rattle.lists.specs.Below.{all-more, sum-more}
 use Rattle.record.specs.Blocks.{instructionsIn, edgesIn, labelMark, marksOk}
 use Rattle.record.proofs.blocks.marks_ok.Statement.{statement}
 use Rattle.record.proofs.blocks.marks_ok.Tie as tie
-use Rattle.record.proofs.blocks.marks_ok.Reads as reads
-use Rattle.record.proofs.blocks.marks_ok.Lts as lts
-use Rattle.record.proofs.blocks.edges_in.Reads as edges-in-reads
-use Rattle.record.proofs.blocks.instructions_in.Reads as instructions-in-reads
-use Rattle.record.proofs.blocks.label_mark.Reads as label-mark-reads
 
 abbrev Inv-loop : tie.InvT-loop
 Inv-loop marks blocks instructions edges total₀ sum₀ ok₀ k₀ total sum ok k =

@@ -11,9 +11,6 @@ use Rattle.lists.specs.Below.{all-goes-on, all-fails}
 use Rattle.record.specs.Blocks.{differ, startIsNew}
 use Rattle.record.proofs.blocks.start_is_new.Statement.{statement}
 use Rattle.record.proofs.blocks.start_is_new.Tie as tie
-use Rattle.record.proofs.blocks.start_is_new.Reads as reads
-use Rattle.record.proofs.blocks.start_is_new.Lts as lts
-use Rattle.record.proofs.blocks.start_at.Reads as start-at-reads
 
 abbrev Inv-loop : tie.InvT-loop
 Inv-loop starts k x j₀ j = (j ≤ k) × (allBelow (differ starts k) j ≡ true)

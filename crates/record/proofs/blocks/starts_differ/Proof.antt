@@ -12,10 +12,6 @@ use Rattle.record.specs.Blocks.{startIsNew, startsDiffer}
 use Rattle.record.specs.Rising.{rising-differ}
 use Rattle.record.proofs.blocks.starts_differ.Statement.{statement}
 use Rattle.record.proofs.blocks.starts_differ.Tie as tie
-use Rattle.record.proofs.blocks.starts_differ.Reads as reads
-use Rattle.record.proofs.blocks.starts_differ.Lts as lts
-use Rattle.record.proofs.blocks.start_is_new.Reads as start-is-new-reads
-use Rattle.record.proofs.blocks.starts_rise.Reads as starts-rise-reads
 
 abbrev Inv-loop : tie.InvT-loop
 Inv-loop starts blocks k₀ k = (k ≤ blocks) × (allBelow (startIsNew starts) k ≡ true)

@@ -9,9 +9,6 @@ use Rattle.lists.specs.Below.{all-more}
 use Rattle.record.specs.Blocks.{startAt, startRises, startsRise}
 use Rattle.record.proofs.blocks.starts_rise.Statement.{statement}
 use Rattle.record.proofs.blocks.starts_rise.Tie as tie
-use Rattle.record.proofs.blocks.starts_rise.Reads as reads
-use Rattle.record.proofs.blocks.starts_rise.Lts as lts
-use Rattle.record.proofs.blocks.start_at.Reads as start-at-reads
 
 abbrev Inv-loop : tie.InvT-loop
 Inv-loop starts blocks before₀ ok₀ k₀ before ok k = (k ≤ blocks) × (before ≡ startAt starts (k - 1)) × (ok ≡ allBelow (startRises starts) k)

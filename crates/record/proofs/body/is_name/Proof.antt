@@ -11,10 +11,6 @@ use Rattle.lists.specs.Below.{all-more}
 use Rattle.record.specs.Body.{nameGoesOn, isName}
 use Rattle.record.proofs.body.is_name.Statement.{statement}
 use Rattle.record.proofs.body.is_name.Tie as tie
-use Rattle.record.proofs.body.is_name.Reads as reads
-use Rattle.record.proofs.body.is_name.Lts as lts
-use Rattle.lists.proofs.reads.u8_at.Reads as u8-at-reads
-use Rattle.record.proofs.body.name_byte.Reads as name-byte-reads
 
 abbrev Inv-loop : tie.InvT-loop
 Inv-loop name first before₀ ok₀ k₀ before ok k = (k ≤ 23) × (before ≡ u8At name k) × (ok ≡ allBelow (nameGoesOn name) k)

@@ -5,10 +5,6 @@ use borrow.Author.Tests.{eq-eqb, ne-eqb}
 use borrow.Author.Needs.{needs}
 use Rattle.record.proofs.body.op_register.Statement.{statement}
 use Rattle.record.proofs.body.op_register.Tie as tie
-use Rattle.record.proofs.body.op_register.Reads as reads
-use Rattle.record.proofs.body.op_register.Lts as lts
-use Rattle.record.proofs.body.op_kind.Reads as op-kind-reads
-use Rattle.record.proofs.body.register_byte.Reads as register-byte-reads
 
 op-kind-requires : tie.Need-op-kind-requires
 op-kind-requires c κs = search needs

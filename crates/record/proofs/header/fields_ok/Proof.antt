@@ -1,3 +1,5 @@
+-- The header's fields are among those allowed: `fields_ok` meets its contract.
+-- Each test as it is written; the shift is an i32, which is 0 if its bits are.
 use mathlib.Core.Path.{ap, _∙_}
 use mir.Syntax.{w32}
 use mir.ValLaws.{toZ-ofZ}
@@ -5,15 +7,10 @@ use Rattle.lists.specs.Signed.{isZero}
 use borrow.Author.Needs.{needs}
 use Rattle.record.proofs.header.fields_ok.Statement.{statement}
 use Rattle.record.proofs.header.fields_ok.Tie as tie
-use Rattle.record.proofs.header.fields_ok.Reads as reads
-use Rattle.record.proofs.header.fields_ok.Lts as lts
-use Rattle.lists.proofs.signed.is_zero.Reads as is-zero-reads
 
--- src/header.rt:50:31
 is-zero-requires : tie.Need-is-zero-requires
 is-zero-requires c κs = search needs
 
--- src/header.rt:44:1
 returns : tie.Need-returns
 returns c =
     let by = c .before .before .before .before .before .before .before .args .h .shift in

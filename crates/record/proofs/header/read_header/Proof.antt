@@ -1,3 +1,5 @@
+-- The header of a record: `read_header` meets its contract.
+-- Each field is read at its own offset.
 use mathlib.Core.Path.{_≡_, _∙_}
 use mir.Syntax.{w32}
 use mir.Val.{toZ, ofZ, SFits}
@@ -8,66 +10,46 @@ use Rattle.record.specs.Header.{headerOf}
 use borrow.Author.Needs.{needs}
 use Rattle.record.proofs.header.read_header.Statement.{statement}
 use Rattle.record.proofs.header.read_header.Tie as tie
-use Rattle.record.proofs.header.read_header.Reads as reads
-use Rattle.record.proofs.header.read_header.Lts as lts
-use Rattle.lists.proofs.reads.u16_at.Reads as u16-at-reads
-use Rattle.lists.proofs.reads.u32_at.Reads as u32-at-reads
-use Rattle.lists.proofs.reads.u8_at.Reads as u8-at-reads
-use Rattle.lists.proofs.signed.signed32.Reads as signed32-reads
 
--- src/header.rt:29:15
 u16-at-requires : tie.Need-u16-at-requires
 u16-at-requires c κs = search needs
 
--- src/header.rt:30:21
 u16-at-requires-2 : tie.Need-u16-at-requires-2
 u16-at-requires-2 c κs = search needs
 
--- src/header.rt:31:17
 u16-at-requires-3 : tie.Need-u16-at-requires-3
 u16-at-requires-3 c κs = search needs
 
--- src/header.rt:32:23
 u16-at-requires-4 : tie.Need-u16-at-requires-4
 u16-at-requires-4 c κs = search needs
 
--- src/header.rt:33:16
 u16-at-requires-5 : tie.Need-u16-at-requires-5
 u16-at-requires-5 c κs = search needs
 
--- src/header.rt:34:16
 u16-at-requires-6 : tie.Need-u16-at-requires-6
 u16-at-requires-6 c κs = search needs
 
--- src/header.rt:35:16
 u16-at-requires-7 : tie.Need-u16-at-requires-7
 u16-at-requires-7 c κs = search needs
 
--- src/header.rt:36:16
 u16-at-requires-8 : tie.Need-u16-at-requires-8
 u16-at-requires-8 c κs = search needs
 
--- src/header.rt:37:25
 u32-at-requires : tie.Need-u32-at-requires
 u32-at-requires c κs = search needs
 
--- src/header.rt:37:16
 signed32-requires : tie.Need-signed32-requires
 signed32-requires c κs = search needs
 
--- src/header.rt:38:18
 u8-at-requires : tie.Need-u8-at-requires
 u8-at-requires c κs = search needs
 
--- src/header.rt:39:17
 u8-at-requires-2 : tie.Need-u8-at-requires-2
 u8-at-requires-2 c κs = search needs
 
--- src/header.rt:40:15
 u16-at-requires-9 : tie.Need-u16-at-requires-9
 u16-at-requires-9 c κs = search needs
 
--- src/header.rt:25:1
 returns : tie.Need-returns
 unfolding headerOf
 returns c =
