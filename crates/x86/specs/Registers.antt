@@ -45,21 +45,51 @@ names-sized = refl
 unfoldable pub registerName : ℕ → List ℕ
 registerName r = pick (eqb r 0) (ascii "none") (getD (getD registerNames (r / 16) []) (r % 16) [])
 
+-- dword and qword registers by index, and those that rules name
+abbrev pub dword : ℕ → ℕ
+dword i = 64 + i
+
 abbrev pub qword : ℕ → ℕ
 qword i = 80 + i
+
+abbrev pub esp : ℕ
+esp = dword 4
+
+abbrev pub rsp : ℕ
+rsp = qword 4
+
+abbrev pub eip : ℕ
+eip = 96
+
+abbrev pub rip : ℕ
+rip = 97
+
+abbrev pub fs : ℕ
+fs = 116
+
+abbrev pub gs : ℕ
+gs = 117
+
+pub registers-numbered : map registerName (esp ∷ rsp ∷ eip ∷ rip ∷ fs ∷ gs ∷ []) ≡ words "esp rsp eip rip fs gs"
+unfolding registerNames registerName
+registers-numbered = refl
+
+-- the stack pointer, at either width
+abbrev pub isStackPointer : ℕ → Bool
+isStackPointer r = eqb r esp || eqb r rsp
 
 -- the whole register that r is a part of: of classes 1 to 5 the qword register of the same index (ah ch dh bh have
 -- rax rcx rdx rbx), of eip and rip rip; each other one is whole itself
 unfoldable pub fullRegister : ℕ → ℕ
-fullRegister r = pick (leb 1 (r / 16) && leb (r / 16) 5) (qword (r % 16)) (pick (eqb (r / 16) 6) 97 r)
+fullRegister r = pick (leb 1 (r / 16) && leb (r / 16) 5) (qword (r % 16)) (pick (eqb (r / 16) 6) rip r)
 
 -- the width in bytes, by class
 abbrev pub classBytes : List ℕ
 classBytes = 0 ∷ 1 ∷ 1 ∷ 2 ∷ 4 ∷ 8 ∷ 8 ∷ 2 ∷ 16 ∷ 32 ∷ []
 
--- eip, which is 96, has 4
+-- eip has 4
 unfoldable pub registerSize : ℕ → ℕ
-registerSize r = pick (eqb r 96) 4 (getD classBytes (r / 16) 0)
+registerSize r = pick (eqb r eip) 4 (getD classBytes (r / 16) 0)
 
 -- the whole registers that a callee saves: rbx rbp rsi rdi r12 r13 r14 r15
 abbrev pub savedRegisters : List ℕ
