@@ -10,7 +10,7 @@ use Rattle.lists.specs.Choice.{anyBelow, pick}
 use Rattle.lists.specs.Below.{any-found, any-goes-on}
 use Rattle.structure.specs.Graph.{firstEdgeIn, edgesIn, hasEdge}
 use Rattle.record.specs.Search.{lastFrom}
-use Rattle.record.specs.declared.search.Found.the-variants.{At, Nothing}
+use Rattle.record.specs.declared.search.Found.the-variants.{At}
 
 module _ (blocks : List ℕ) (p : ℕ → Bool) (k first n m : ℕ) (f : first ≡ firstEdgeIn blocks k) (h : n ≡ edgesIn blocks k) where
   pub edge-found : m < n → p (first + m) ≡ true → true ≡ hasEdge blocks p k

@@ -1,3 +1,16 @@
+pub mod Within
+pub mod Grown
+pub mod Plain
+pub mod Unsilenced
+pub mod Addresses
+pub mod Braces
+pub mod Few
+pub mod PlanPlaced
+pub mod Props
+pub mod Storing
+pub mod Parts
+pub mod Turns
+pub mod Worked
 pub mod Found
-pub mod Sourced
 pub mod Stands
+pub mod Sourced

@@ -2,7 +2,7 @@
 -- Each note is a choice by a test, so that notes one after another are the definitions' choices; no block before a first source
 -- or behind a last one is a source, and a part whose places are not exposed is entered only at its first.
 use mathlib.Core.Path.{_≡_, refl, sym, ap, _∙_}
-use mathlib.Core.Bool.{Bool, true, false, not, _&&_, _||_, and-false, and-true, or-true, or-false}
+use mathlib.Core.Bool.{Bool, true, false, not, _&&_, _||_, and-false, and-true, or-true}
 use mathlib.Core.List.{List}
 use Prim.Native.Nat.{ℕ, zero, suc, _+_, _-_, _≤_, _<_}
 use native.Mathlib.Decide.{ℕ-discrete, decLe}
@@ -10,13 +10,13 @@ use native.Mathlib.Omega.{arith}
 use lib.Dec.{eqb, ltb, leb}
 use lib.ListN.{length, getD, set, replicate, length-set, length-replicate, getD-replicate, List·getD-eq-default}
 use lib.Seq.{getD-set-same, getD-set-other}
-use borrow.Author.Tests.{eq-eqb, eqb-true, ne-eqb, lt-ltb, le-ltb, le-leb, lt-leb, ltb-true, ltb-false, leb-false}
+use borrow.Author.Tests.{eq-eqb, eqb-true, ne-eqb, lt-ltb, le-ltb, lt-leb, ltb-true, ltb-false, leb-false}
 use Rattle.lists.specs.Choice.{pick, anyBelow}
 use Rattle.lists.specs.Below.{any-found, any-more, none-at, none-below, any-gives, any-part}
 use Rattle.lists.specs.Every.{neither}
-use Rattle.structure.specs.Graph.{firstEdgeIn, edgesIn, edgeTo, edgeKind, goesTo, trueEdgeTo, hasEdge, hasCondition, closesLoop, outside, enters, jumpTo, singleEntry, outsideJump}
+use Rattle.structure.specs.Graph.{firstEdgeIn, edgesIn, edgeTo, edgeKind, goesTo, trueEdgeTo, hasEdge, hasCondition, closesLoop, outside, enters, jumpTo, outsideJump}
 use Rattle.record.specs.Search.{lastFrom}
-use Rattle.structure.specs.Within.{false-true}
+use Rattle.structure.proofs.Within.{false-true}
 use Rattle.structure.specs.Sources.{firstSource, lastSource, Entries, arrives, isSource, searchStart, searchEnd, exposed, anyExposed, Ends, Sources}
 use Rattle.structure.proofs.Found.{last-behind}
 
@@ -263,8 +263,8 @@ module _ (blocks edges : List ℕ) where
         none-below enters-from B (λ k b. elim (decLe (suc k) from) [
           | yes y ↦ rw (lt-ltb k from y) (no-entry from to k (λ t u v. let c = inside t (not-exposed t u v) in h .before t k (c .0) (omega arith) b))
           | no y ↦ elim (decLe to k) [
-            | yes z ↦ rw (le-ltb k from (omega arith), le-leb to k z) (no-entry from to k (λ t u v. let c = inside t (not-exposed t u v) in h .behind t k (c .2) (omega arith) b))
-            | no z ↦ rw (le-ltb k from (omega arith), lt-leb to k (omega arith))
+            | yes z ↦ rw (le-ltb k from (omega arith), le-ltb k to z) (no-entry from to k (λ t u v. let c = inside t (not-exposed t u v) in h .behind t k (c .2) (omega arith) b))
+            | no z ↦ rw (le-ltb k from (omega arith), lt-ltb k to (omega arith))
           ]
         ])
       where
@@ -283,7 +283,7 @@ module _ (blocks edges : List ℕ) where
         where
           behind : (k : ℕ) → getD lasts t 0 ≡ k → to < k → anyBelow enters-from B ≡ true
           behind zero q lt = absurd (omega arith)
-          behind (suc k) q lt = outside-enters t k a b (h .last-is t k (omega (arith, long .1)) q) (rw (le-leb to k (omega arith)) (or-true (ltb k from)))
+          behind (suc k) q lt = outside-enters t k a b (h .last-is t k (omega (arith, long .1)) q) (rw (le-ltb k to (omega arith)) (or-true (ltb k from)))
 
           go : (x y : Bool) → ltb (getD firsts t 0) from ≡ x → ltb to (getD lasts t 0) ≡ y → (x || y) ≡ true → anyBelow enters-from B ≡ true
           go true y p q z =

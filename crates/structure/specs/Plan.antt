@@ -1,14 +1,13 @@
--- The plan of a range: one line each for what the listing writes, with its place, instruction and indent, and no text.
--- Fuel with open recursion: `step` takes the function that plans smaller ranges.
+-- The plan of a range: one line each for what the listing writes, with its place, instruction and indent, and no text. A fold over
+-- the range's tree.
 use Prim.Native.Nat.{ℕ, zero, suc, _+_, _-_, _*_}
 use mathlib.Core.List.{List, [], _∷_, _++_, map}
-use mathlib.Core.Bool.{Bool, true, false, _&&_, _||_}
+use mathlib.Core.Bool.{Bool, _&&_, _||_}
 use lib.Dec.{ltb, eqb}
 use Rattle.lists.specs.Choice.{pick}
-use Rattle.structure.specs.Graph.{firstIn, countIn, labelWanted, endingIn, branchTo, isBlock, lastIn, isShown, outsideJump}
-use Rattle.structure.specs.Shape.{shapeAt}
-use Rattle.structure.specs.declared.shape.Shape.{Shape}
-use Rattle.structure.specs.declared.shape.Shape.the-variants.{Loop, Region, Plain}
+use Rattle.structure.specs.Graph.{firstIn, countIn, labelWanted, endsInBranch, endsInJmp, branchTo, isBlock, lastIn, isShown, outsideJump}
+use Rattle.structure.specs.Tree.{Tree, treeOf}
+use Rattle.structure.specs.Tree.Tree.{over, plain, region, loop}
 
 -- what a line is written for
 pub data What : Type 0 where
@@ -47,9 +46,6 @@ whatNumber insn-line = 8
 abbrev pub codeOf : Line → ℕ
 codeOf l = whatNumber (l .what) + 16 * (l .at + 65536 * (l .place + 65536 * l .indent))
 
-abbrev pub Go : Type 0
-Go = ℕ → ℕ → ℕ → ℕ → List Line
-
 -- "A label's indent is one less, never below 0."
 abbrev pub labelIf : Bool → ℕ → ℕ → List Line
 labelIf wanted k d = pick wanted (line label-line k 0 (d - 1) ∷ []) []
@@ -62,29 +58,34 @@ shownLines shown k i (suc n) d = pick (isShown shown i) (line insn-line k i d �
 module _ (blocks : List ℕ) where
   -- a block's instructions before a closing conditional branch or direct jmp, which have a line of their own or none
   unfoldable pub bodyCount : ℕ → ℕ
-  bodyCount k = pick (eqb (endingIn blocks k) 2 || eqb (endingIn blocks k) 3) (countIn blocks k - 1) (countIn blocks k)
+  bodyCount k = pick (endsInBranch blocks k || endsInJmp blocks k) (countIn blocks k - 1) (countIn blocks k)
 
-  -- a last direct jmp: none if it "goes to the next block when that lies in the range being written", else a goto to a block
-  -- or a tail call
+  -- the branch of block i "goes to the next block when that lies in the range being written", which ends at `to`
+  abbrev pub goesNext : ℕ → ℕ → Bool
+  goesNext i to = eqb (branchTo blocks i) (i + 1) && ltb (i + 1) to
+
+  -- a last direct jmp: none if it goes to the next block so, else a goto to a block or a tail call
   abbrev pub jumpLines : ℕ → ℕ → ℕ → List Line
   jumpLines i to d =
-      pick (eqb (branchTo blocks i) (i + 1) && ltb (i + 1) to) []
-      (line (pick (isBlock (branchTo blocks i)) goto-line tail-call) i (lastIn blocks i) d ∷ [])
+      pick (goesNext i to) [] (line (pick (isBlock (branchTo blocks i)) goto-line tail-call) i (lastIn blocks i) d ∷ [])
+
+  -- a closing conditional branch
+  abbrev pub branchLines : ℕ → ℕ → List Line
+  branchLines k d = pick (endsInBranch blocks k) (line if-goto k (lastIn blocks k) d ∷ []) []
 
   unfoldable pub closingLines : ℕ → ℕ → ℕ → List Line
   closingLines i to d =
-      pick (eqb (endingIn blocks i) 2) (line if-goto i (lastIn blocks i) d ∷ [])
-      (pick (eqb (endingIn blocks i) 3) (jumpLines i to d) [])
+      pick (endsInBranch blocks i) (line if-goto i (lastIn blocks i) d ∷ []) (pick (endsInJmp blocks i) (jumpLines i to d) [])
 
 module _ (blocks shown : List ℕ) where
   abbrev pub bodyLines : ℕ → ℕ → List Line
   bodyLines k d = shownLines shown k (firstIn blocks k) (bodyCount blocks k) d
 
-  -- a block of a do-body other than its last: flat, its direct jmp silent
+  -- a block of a do-body other than its last, with its label "whenever wanted" but for the head i; its direct jmp is silent
   unfoldable pub flatBlock : ℕ → ℕ → ℕ → List Line
   flatBlock i k d =
       labelIf (ltb i k && labelWanted blocks k) k d
-      ++ (bodyLines k d ++ pick (eqb (endingIn blocks k) 2) (line if-goto k (lastIn blocks k) d ∷ []) [])
+      ++ (bodyLines k d ++ branchLines blocks k d)
 
   -- n such blocks from k on, of the loop whose head is i
   unfoldable pub flatLines : ℕ → ℕ → ℕ → ℕ → List Line
@@ -97,41 +98,43 @@ module _ (blocks shown : List ℕ) where
       labelIf (labelWanted blocks j) j (d + 1)
       ++ (shownLines shown j (firstIn blocks j) (countIn blocks j - 1) (d + 1) ++ (line while-line j (lastIn blocks j) d ∷ []))
 
--- "A plain block that wants a label gets it if it isn't first in its range, or if a block outside the range has an edge to
--- it not of kind Fall."
-abbrev pub plainLabel : List ℕ → List ℕ → ℕ → ℕ → ℕ → ℕ → ℕ → List Line
-plainLabel blocks edges B from i to d = labelIf (labelWanted blocks i && (ltb from i || outsideJump blocks edges B from to i)) i d
+module _ (blocks edges : List ℕ) (B : ℕ) where
+  -- "A plain block that wants a label gets it if it isn't first in its range, or if a block outside the range has an edge to
+  -- it not of kind Fall."
+  abbrev pub labelled : ℕ → ℕ → ℕ → Bool
+  labelled from i to = labelWanted blocks i && (ltb from i || outsideJump blocks edges B from to i)
+
+  -- "A do-head gets it only by the second way, outside meaning outside the loop"
+  abbrev pub headLabelled : ℕ → ℕ → Bool
+  headLabelled i j = labelWanted blocks i && outsideJump blocks edges B i (j + 1) i
 
 module _ (blocks edges shown : List ℕ) (B : ℕ) where
   unfoldable pub plainLines : ℕ → ℕ → ℕ → ℕ → List Line
-  plainLines from i to d = plainLabel blocks edges B from i to d ++ (bodyLines blocks shown i d ++ closingLines blocks i to d)
+  plainLines from i to d =
+      labelIf (labelled blocks edges B from i to) i d ++ (bodyLines blocks shown i d ++ closingLines blocks i to d)
 
-  -- "A do-head gets it only by the second way, outside meaning outside the loop; other blocks of the body whenever wanted."
+  -- a do-loop from i to j: its body is flat
   unfoldable pub loopLines : ℕ → ℕ → ℕ → List Line
   loopLines i j d =
-      labelIf (labelWanted blocks i && outsideJump blocks edges B i (j + 1) i) i d
+      labelIf (headLabelled blocks edges B i j) i d
       ++ (line do-line i 0 d ∷ (flatLines blocks shown i i (j - i) (d + 1) ++ testBlock blocks shown j d))
 
-  -- an if-region: its block's lines, the opening line for the branch, the range behind it one deeper, a lone closing brace
-  abbrev pub regionLines : Go → ℕ → ℕ → ℕ → ℕ → ℕ → List Line
-  regionLines go from i t to d =
-      plainLabel blocks edges B from i to d
-      ++ (bodyLines blocks shown i d ++ (line open-line i (lastIn blocks i) d ∷ (go (i + 1) (i + 1) t (d + 1) ++ (line close-line i 0 d ∷ []))))
+  -- an if-region: its block's lines, the opening line for the branch, the lines inside, a lone closing brace
+  abbrev pub regionLines : List Line → ℕ → ℕ → ℕ → ℕ → List Line
+  regionLines inner from i to d =
+      labelIf (labelled blocks edges B from i to) i d
+      ++ (bodyLines blocks shown i d ++ (line open-line i (lastIn blocks i) d ∷ (inner ++ (line close-line i 0 d ∷ []))))
+
+  -- from place i on, in the range from `from` up to `to`; the range inside an if-region is one deeper
+  unfoldable pub treeLines : Tree → ℕ → ℕ → ℕ → ℕ → List Line
+  treeLines over from i to d = []
+  treeLines (plain r) from i to d = plainLines from i to d ++ treeLines r from (i + 1) to d
+  treeLines (region t a r) from i to d = regionLines (treeLines a (i + 1) (i + 1) t (d + 1)) from i to d ++ treeLines r from t to d
+  treeLines (loop j r) from i to d = loopLines i j d ++ treeLines r from (j + 1) to d
 
 module _ (blocks edges shown starts targets : List ℕ) (B : ℕ) where
-  -- from place i on, in the range from `from` up to `to`
-  abbrev pub step : Go → Bool → Shape → Go
-  step go false s from i to d = []
-  step go true (Loop j) from i to d = loopLines blocks edges shown B i j d ++ go from (j + 1) to d
-  step go true (Region t) from i to d = regionLines blocks edges shown B go from i t to d ++ go from t to d
-  step go true Plain from i to d = plainLines blocks edges shown B from i to d ++ go from (i + 1) to d
-
-  unfoldable pub rangeGo : ℕ → Go
-  rangeGo zero from i to d = []
-  rangeGo (suc n) from i to d = step (rangeGo n) (ltb i to) (shapeAt blocks edges starts targets B i to) from i to d
-
-  unfoldable pub rangeLines : Go
-  rangeLines from i to d = rangeGo (to - i) from i to d
+  unfoldable pub rangeLines : ℕ → ℕ → ℕ → ℕ → List Line
+  rangeLines from i to d = treeLines blocks edges shown B (treeOf blocks edges starts targets B i to) from i to d
 
   -- the plan of the range from `from` up to `to`, from indent d on
   abbrev pub planOf : ℕ → ℕ → ℕ → List Line

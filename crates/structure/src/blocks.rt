@@ -11,17 +11,14 @@ use crate::lines::put_line;
 use crate::lines::shown_lines;
 use crate::tests::has_outside_jump_to;
 use record::blocks::Place;
-ghost use mathlib.Core.Bool.{_&&_};
+use record::blocks::is_before;
+use record::blocks::same_place;
 ghost use mathlib.Core.Path.{_≡_};
-ghost use Prim.Native.Nat.{_+_, _-_, _<_, _≤_};
-ghost use lib.Dec.{eqb, ltb};
-ghost use Rattle.structure.specs.Graph.{branchTo};
-ghost use Rattle.structure.specs.Plan.{bodyCount, bodyLines, jumpLines, closingLines, plainLines};
-ghost use Rattle.structure.specs.Within.{labelled};
-ghost use Rattle.structure.specs.Codes.{codes};
-ghost use Rattle.structure.specs.Parts.{headLines};
-ghost use Rattle.structure.specs.Sources.{Sources};
+ghost use Prim.Native.Nat.{_+_, _-_, _<_};
+ghost use Rattle.structure.specs.Plan.{bodyCount, bodyLines, goesNext, jumpLines, closingLines, plainLines, labelled};
+ghost use Rattle.structure.specs.Codes.{codes, headLines};
 ghost use Rattle.structure.specs.Stored.{Stored, Room};
+ghost use Rattle.structure.specs.Sources.{Sources};
 
 // Whether the block at place i of a range has a label.
 fn is_labelled(
@@ -38,7 +35,7 @@ fn is_labelled(
     ensures { λ r. ⌜ r ≡ labelled (now (blocks .entry)) (now (edges .entry)) count (from .0) (i .0) (to .0) ⌝ }
 {
     if label_wanted(blocks, i) {
-        if from.0 < i.0 {
+        if is_before(from, i) {
             return true;
         }
         return has_outside_jump_to(blocks, edges, firsts, lasts, count, from, to, i);
@@ -76,10 +73,10 @@ pub fn body_lines(
 
 // A direct jmp goes to the next place, and that lies in the range.
 fn goes_next(blocks: &[u16], i: Place, to: Place) -> bool
-    ensures { λ r. ⌜ r ≡ (eqb (branchTo (now (blocks .entry)) (i .0)) (i .0 + 1) && ltb (i .0 + 1) (to .0)) ⌝ }
+    ensures { λ r. ⌜ r ≡ goesNext (now (blocks .entry)) (i .0) (to .0) ⌝ }
 {
     let next = i.0 as u32 + 1;
-    (branch_to(blocks, i) as u32 == next) & (next < to.0 as u32)
+    (branch_to(blocks, i).0 as u32 == next) & (next < to.0 as u32)
 }
 
 // The line of a last direct jmp: none, a goto, or a tail call.
@@ -91,7 +88,7 @@ fn jump_line(blocks: &[u16], i: Place, to: Place, indent: u32, out: &mut [u64], 
         return at;
     }
     let last = last_in(blocks, i);
-    if branch_to(blocks, i) == 65535 {
+    if same_place(branch_to(blocks, i), Place(65535)) {
         return put_line(out, at, 7, i, last, indent);
     }
     put_line(out, at, 6, i, last, indent)

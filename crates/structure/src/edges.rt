@@ -5,6 +5,10 @@ use crate::graph::edges_in;
 use crate::graph::first_edge_in;
 use crate::graph::target_at;
 use record::blocks::Place;
+use record::blocks::is_before;
+use record::blocks::is_below;
+use record::blocks::same_address;
+use record::blocks::same_place;
 use record::blocks::start_at;
 ghost use mathlib.Core.Path.{_≡_};
 ghost use Rattle.structure.specs.Graph.{hasEdge, passes, leaves};
@@ -22,9 +26,9 @@ fn is_wanted(edges: &[u16], wanted: Wanted, e: u32) -> bool
 {
     let t = edge_to(edges, e);
     match wanted {
-        Wanted::TrueTo(i) => (t.0 == i.0) & (edge_kind(edges, e) == 1),
-        Wanted::Between(from, to) => (from.0 < t.0) & (t.0 < to.0),
-        Wanted::JumpTo(i) => (t.0 == i.0) & (edge_kind(edges, e) != 3),
+        Wanted::TrueTo(i) => same_place(t, i) & (edge_kind(edges, e) == 1),
+        Wanted::Between(from, to) => is_before(from, t) & is_before(t, to),
+        Wanted::JumpTo(i) => same_place(t, i) & (edge_kind(edges, e) != 3),
     }
 }
 
@@ -35,7 +39,7 @@ fn is_leaving(starts: &[u8], targets: &[u8], from: Place, join: Place, e: u32) -
     let target = target_at(targets, e);
     let first = start_at(starts, from);
     let excepted = start_at(starts, join);
-    (target.0 < first.0) & (target.0 != excepted.0)
+    is_below(target, first) & !same_address(target, excepted)
 }
 
 pub fn has_edge(blocks: &[u16], edges: &[u16], wanted: Wanted, k: Place) -> bool

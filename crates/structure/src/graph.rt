@@ -4,12 +4,11 @@ use lists::reads::u16_in;
 use lists::reads::u64_at;
 use record::blocks::Address;
 use record::blocks::Place;
-ghost use mathlib.Core.Bool.{_||_};
+use record::blocks::is_before;
 ghost use mathlib.Core.Path.{_≡_};
 ghost use Prim.Native.Nat.{_*_, _+_, _<_};
-ghost use lib.Dec.{eqb, leb, ltb};
 ghost use Rattle.lists.specs.Bytes.{u64At};
-ghost use Rattle.structure.specs.Graph.{firstIn, countIn, firstEdgeIn, edgesIn, labelWanted, endingIn, branchTo, lastIn, isShown, edgeTo, edgeKind};
+ghost use Rattle.structure.specs.Graph.{firstIn, countIn, firstEdgeIn, edgesIn, labelWanted, endingIn, branchTo, lastIn, isShown, hasCondition, outside, edgeTo, edgeKind};
 
 pub fn first_in(blocks: &[u16], k: Place) -> u16
     ensures { λ r. ⌜ (r ≡ firstIn (now (blocks .entry)) (k .0)) × (r < 65536) ⌝ }
@@ -50,10 +49,10 @@ pub fn ending_in(blocks: &[u16], k: Place) -> u16
     u16_in(blocks, 8 * k.0 as usize + 5)
 }
 
-pub fn branch_to(blocks: &[u16], k: Place) -> u16
-    ensures { λ r. ⌜ (r ≡ branchTo (now (blocks .entry)) (k .0)) × (r < 65536) ⌝ }
+pub fn branch_to(blocks: &[u16], k: Place) -> Place
+    ensures { λ r. ⌜ r .0 ≡ branchTo (now (blocks .entry)) (k .0) ⌝ }
 {
-    u16_in(blocks, 8 * k.0 as usize + 6)
+    Place(u16_in(blocks, 8 * k.0 as usize + 6))
 }
 
 // A block's last instruction, of a block that has one.
@@ -65,7 +64,7 @@ pub fn last_in(blocks: &[u16], k: Place) -> u32
 }
 
 pub fn has_condition(blocks: &[u16], j: Place) -> bool
-    ensures { λ r. ⌜ r ≡ (eqb (endingIn (now (blocks .entry)) (j .0)) 1 || eqb (endingIn (now (blocks .entry)) (j .0)) 2) ⌝ }
+    ensures { λ r. ⌜ r ≡ hasCondition (now (blocks .entry)) (j .0) ⌝ }
 {
     let ending = ending_in(blocks, j);
     (ending == 1) | (ending == 2)
@@ -97,7 +96,7 @@ pub fn target_at(targets: &[u8], e: u32) -> Address
 
 // Whether place k lies outside the places from `from` up to `to`.
 pub fn is_outside(from: Place, to: Place, k: Place) -> bool
-    ensures { λ r. ⌜ r ≡ (ltb (k .0) (from .0) || leb (to .0) (k .0)) ⌝ }
+    ensures { λ r. ⌜ r ≡ outside (from .0) (to .0) (k .0) ⌝ }
 {
-    (k.0 < from.0) | (to.0 <= k.0)
+    is_before(k, from) | !is_before(k, to)
 }

@@ -11,19 +11,18 @@ use crate::lines::put_line;
 use crate::lines::shown_lines;
 use crate::tests::has_outside_jump_to;
 use record::blocks::Place;
+use record::blocks::is_before;
 ghost use mathlib.Core.Path.{_≡_};
-ghost use Prim.Native.Nat.{_+_, _-_, _<_, _≤_};
-ghost use Rattle.structure.specs.Plan.{flatBlock, flatLines, testBlock, loopLines};
-ghost use Rattle.structure.specs.Within.{headLabelled};
-ghost use Rattle.structure.specs.Codes.{codes};
-ghost use Rattle.structure.specs.Parts.{branchLine, doLines};
-ghost use Rattle.structure.specs.Sources.{Sources};
+ghost use Prim.Native.Nat.{_+_, _-_, _<_};
+ghost use Rattle.structure.specs.Plan.{flatBlock, flatLines, testBlock, loopLines, headLabelled, branchLines};
+ghost use Rattle.structure.specs.Codes.{codes, doLines};
 ghost use Rattle.structure.specs.Stored.{Stored, Room};
+ghost use Rattle.structure.specs.Sources.{Sources};
 
 // The line of a closing conditional branch, if the block ends with one.
 fn branch_line(blocks: &[u16], k: Place, indent: u32, out: &mut [u64], at: usize) -> usize
-    requires { ⌜ (indent < 131072) × Room at (codes (branchLine (now blocks) (k .0) indent)) ⌝ }
-    ensures { λ r. ⌜ Stored (now (out .entry)) at (codes (branchLine (now (blocks .entry)) (k .0) indent)) r (now (out .exit)) ⌝ }
+    requires { ⌜ (indent < 131072) × Room at (codes (branchLines (now blocks) (k .0) indent)) ⌝ }
+    ensures { λ r. ⌜ Stored (now (out .entry)) at (codes (branchLines (now (blocks .entry)) (k .0) indent)) r (now (out .exit)) ⌝ }
 {
     if ending_in(blocks, k) == 2 {
         return put_line(out, at, 3, k, last_in(blocks, k), indent);
@@ -44,7 +43,7 @@ fn flat_block(
     requires { ⌜ (indent < 131072) × Room at (codes (flatBlock (now blocks) (now shown) (i .0) (k .0) indent)) ⌝ }
     ensures { λ r. ⌜ Stored (now (out .entry)) at (codes (flatBlock (now (blocks .entry)) (now (shown .entry)) (i .0) (k .0) indent)) r (now (out .exit)) ⌝ }
 {
-    let wanted = (i.0 < k.0) & label_wanted(blocks, k);
+    let wanted = is_before(i, k) & label_wanted(blocks, k);
     let n = label(out, at, wanted, k, indent);
     let m = body_lines(blocks, shown, k, indent, out, n);
     branch_line(blocks, k, indent, out, m)

@@ -8,7 +8,7 @@ use crate::shape::shape_at;
 use crate::sources::first_sources;
 use crate::sources::last_sources;
 use record::blocks::Place;
-ghost use Prim.Native.Nat.{_+_, _-_, _<_, _≤_};
+ghost use Prim.Native.Nat.{_+_, _-_, _<_};
 ghost use Rattle.structure.specs.Sources.{Ends, Sources};
 ghost use Rattle.structure.specs.Plan.{regionLines, rangeLines, planCodes};
 ghost use Rattle.structure.specs.Codes.{codes};
@@ -62,12 +62,12 @@ fn emit_range(
                     shown,
                     count,
                     Place(i),
-                    Place(j),
+                    j,
                     indent,
                     out,
                     n,
                 );
-                i = j + 1;
+                i = j.0 + 1;
             }
             Shape::Region(t) => {
                 n = emit_region(
@@ -82,13 +82,13 @@ fn emit_range(
                     count,
                     from,
                     Place(i),
-                    Place(t),
+                    t,
                     to,
                     indent,
                     out,
                     n,
                 );
-                i = t;
+                i = t.0;
             }
             Shape::Plain => {
                 n = emit_plain(
@@ -134,8 +134,8 @@ fn emit_region(
     requires { ⌜ (i .0 + 1 < t .0) × (t .0 < 65536) × (indent + (t .0 - i .0) < 131072) ⌝ }
     requires { ⌜ Ends (now blocks) (now edges) (i .0 + 1) (t .0) (now ends) ⌝ }
     requires { ⌜ Sources (now blocks) (now edges) count (now firsts) (now lasts) ⌝ }
-    requires { ⌜ Room at (codes (regionLines (now blocks) (now edges) (now shown) count (rangeLines (now blocks) (now edges) (now shown) (now starts) (now targets) count) (from .0) (i .0) (t .0) (to .0) indent)) ⌝ }
-    ensures { λ r. ⌜ Stored (now (out .entry)) at (codes (regionLines (now (blocks .entry)) (now (edges .entry)) (now (shown .entry)) count (rangeLines (now (blocks .entry)) (now (edges .entry)) (now (shown .entry)) (now (starts .entry)) (now (targets .entry)) count) (from .0) (i .0) (t .0) (to .0) indent)) r (now (out .exit)) ⌝ }
+    requires { ⌜ Room at (codes (regionLines (now blocks) (now edges) (now shown) count (rangeLines (now blocks) (now edges) (now shown) (now starts) (now targets) count (i .0 + 1) (i .0 + 1) (t .0) (indent + 1)) (from .0) (i .0) (to .0) indent)) ⌝ }
+    ensures { λ r. ⌜ Stored (now (out .entry)) at (codes (regionLines (now (blocks .entry)) (now (edges .entry)) (now (shown .entry)) count (rangeLines (now (blocks .entry)) (now (edges .entry)) (now (shown .entry)) (now (starts .entry)) (now (targets .entry)) count (i .0 + 1) (i .0 + 1) (t .0) (indent + 1)) (from .0) (i .0) (to .0) indent)) r (now (out .exit)) ⌝ }
 {
     let n = emit_head(
         blocks,

@@ -5,37 +5,37 @@ use crate::sources::search_end;
 use crate::tests::closes_loop;
 use crate::tests::region_escapes;
 use crate::tests::single_entry;
+use record::blocks::FoundPlace;
 use record::blocks::Place;
-use record::search::Found;
+use record::blocks::is_before;
 ghost use mathlib.Core.Bool.{_&&_, not};
 ghost use mathlib.Core.Path.{_≡_};
 ghost use Prim.Native.Nat.{_+_, _-_, _<_};
 ghost use lib.Dec.{ltb};
-ghost use Rattle.structure.specs.Graph.{closesLoop, singleEntry, escapes};
+ghost use Rattle.structure.specs.Graph.{singleEntry, escapes};
 ghost use Rattle.structure.specs.Sources.{Ends, Sources};
-ghost use Rattle.record.specs.Search.{lastFrom};
-ghost use Rattle.structure.specs.Shape.{opensRegion, regionAt, shapeAt};
+ghost use Rattle.structure.specs.Shape.{lastLoop, opensRegion, regionAt, shapeAt};
 
 // A do-loop up to the block at a place, an if-region up to a place, or a plain block.
 pub enum Shape {
-    Loop(u16),
-    Region(u16),
+    Loop(Place),
+    Region(Place),
     Plain,
 }
 
 // The last block from place i on, before `to`, that closes a loop to i.
-pub fn last_loop(blocks: &[u16], edges: &[u16], ends: &[u16], i: Place, to: Place) -> Found
+pub fn last_loop(blocks: &[u16], edges: &[u16], ends: &[u16], i: Place, to: Place) -> FoundPlace
     requires { ⌜ Ends (now blocks) (now edges) (i .0) (to .0) (now ends) ⌝ }
-    ensures { λ r. ⌜ r ≡ lastFrom (closesLoop (now (blocks .entry)) (now (edges .entry)) (i .0)) (i .0) (to .0 - i .0) ⌝ }
+    ensures { λ r. ⌜ r ≡ lastLoop (now (blocks .entry)) (now (edges .entry)) (i .0) (to .0) ⌝ }
 {
-    let mut j = search_end(ends, i, to);
+    let mut j = search_end(ends, i, to).0;
     while i.0 < j {
         j -= 1;
         if closes_loop(blocks, edges, i, Place(j)) {
-            return Found::At(j);
+            return FoundPlace::AtPlace(Place(j));
         }
     }
-    Found::Nothing
+    FoundPlace::NoPlace
 }
 
 // A loop from i to j has more than one block, and is entered only at i.
@@ -52,7 +52,7 @@ fn is_loop(
     requires { ⌜ j .0 < 65535 ⌝ }
     ensures { λ r. ⌜ r ≡ (ltb (i .0) (j .0) && singleEntry (now (blocks .entry)) (now (edges .entry)) count (i .0) (j .0 + 1)) ⌝ }
 {
-    if i.0 < j.0 {
+    if is_before(i, j) {
         return single_entry(blocks, edges, firsts, lasts, count, i, Place(j.0 + 1));
     }
     false
@@ -71,10 +71,10 @@ fn is_region(
     t: Place,
 ) -> bool
     requires { ⌜ Sources (now blocks) (now edges) count (now firsts) (now lasts) ⌝ }
-    ensures { λ r. ⌜ r ≡ (singleEntry (now (blocks .entry)) (now (edges .entry)) count (from .0) (t .0) && not (escapes (now (blocks .entry)) (now (edges .entry)) (now (starts .entry)) (now (targets .entry)) (from .0) (t .0) (t .0))) ⌝ }
+    ensures { λ r. ⌜ r ≡ (singleEntry (now (blocks .entry)) (now (edges .entry)) count (from .0) (t .0) && not (escapes (now (blocks .entry)) (now (starts .entry)) (now (targets .entry)) (from .0) (t .0))) ⌝ }
 {
     if single_entry(blocks, edges, firsts, lasts, count, from, t) {
-        return !region_escapes(blocks, edges, starts, targets, from, t, t);
+        return !region_escapes(blocks, starts, targets, from, t);
     }
     false
 }
@@ -96,8 +96,8 @@ fn opens_region(
 {
     let t = branch_to(blocks, i);
     if ending_in(blocks, i) == 2 {
-        if i.0 as u32 + 1 < t as u32 {
-            if t <= to.0 {
+        if i.0 as u32 + 1 < t.0 as u32 {
+            if t.0 <= to.0 {
                 return is_region(
                     blocks,
                     edges,
@@ -107,7 +107,7 @@ fn opens_region(
                     targets,
                     count,
                     Place(i.0 + 1),
-                    Place(t),
+                    t,
                 );
             }
         }
@@ -154,12 +154,14 @@ pub fn shape_at(
 {
     let found = last_loop(blocks, edges, ends, i, to);
     match found {
-        Found::At(j) => {
-            if is_loop(blocks, edges, firsts, lasts, count, i, Place(j)) {
+        FoundPlace::AtPlace(j) => {
+            if is_loop(blocks, edges, firsts, lasts, count, i, j) {
                 return Shape::Loop(j);
             }
             region_at(blocks, edges, firsts, lasts, starts, targets, count, i, to)
         }
-        Found::Nothing => region_at(blocks, edges, firsts, lasts, starts, targets, count, i, to),
+        FoundPlace::NoPlace => {
+            region_at(blocks, edges, firsts, lasts, starts, targets, count, i, to)
+        }
     }
 }

@@ -1,4 +1,4 @@
-// Which blocks have edges to a place, from one pass over the edges up and one down, so that no block need be read again to know
+// Which blocks have edges to a place, from two passes over the edges up and one down, so that no block need be read again to know
 // that a part of the order is entered only at its first place, or that no block behind closes a loop.
 use crate::graph::edge_kind;
 use crate::graph::edge_to;
@@ -57,7 +57,7 @@ pub fn last_sources(blocks: &[u16], edges: &[u16], loops: bool, from: u16, to: u
     }
 }
 
-// The first source of each place.
+// The first source of each place; a place with none keeps its entry.
 pub fn first_sources(blocks: &[u16], edges: &[u16], count: u16, out: &mut [u16])
     ensures { λ _. ⌜ Entries (λ t. firstSource (isSource (now (blocks .entry)) (now (edges .entry)) false t) 0 count) (now (out .entry)) (now (out .exit)) ⌝ }
 {
@@ -68,23 +68,23 @@ pub fn first_sources(blocks: &[u16], edges: &[u16], count: u16, out: &mut [u16])
     }
 }
 
-pub fn search_start(firsts: &[u16], i: Place) -> u16
-    ensures { λ r. ⌜ r ≡ searchStart (now (firsts .entry)) (i .0) ⌝ }
+pub fn search_start(firsts: &[u16], i: Place) -> Place
+    ensures { λ r. ⌜ r .0 ≡ searchStart (now (firsts .entry)) (i .0) ⌝ }
 {
-    u16_in(firsts, i.0 as usize)
+    Place(u16_in(firsts, i.0 as usize))
 }
 
-pub fn search_end(ends: &[u16], i: Place, to: Place) -> u16
-    ensures { λ r. ⌜ r ≡ searchEnd (now (ends .entry)) (i .0) (to .0) ⌝ }
+pub fn search_end(ends: &[u16], i: Place, to: Place) -> Place
+    ensures { λ r. ⌜ r .0 ≡ searchEnd (now (ends .entry)) (i .0) (to .0) ⌝ }
 {
     let at = i.0 as usize;
     if at < ends.len() {
         let end = u16_in(ends, at);
         if end < to.0 {
-            return end;
+            return Place(end);
         }
     }
-    to.0
+    to
 }
 
 fn is_exposed(firsts: &[u16], lasts: &[u16], from: Place, to: Place, t: usize) -> bool

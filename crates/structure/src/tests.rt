@@ -1,5 +1,6 @@
 // The four edge tests: does a block close a loop, is a part of the order entered only at its first place, does a block outside
-// jump to a place, does a region escape. Each reads edges in record order and stops at the first that decides.
+// jump to a place, does a region escape. Edges are read in record order up to the first that decides; who enters a part is told by
+// the lists of sources, and who jumps to a place is sought between its first and last source.
 use crate::edges::Wanted;
 use crate::edges::has_edge;
 use crate::edges::has_leaving_edge;
@@ -47,16 +48,16 @@ fn comes_from(
 fn has_outside_edge(
     blocks: &[u16],
     edges: &[u16],
-    low: u16,
-    high: u16,
+    low: Place,
+    high: Place,
     from: Place,
     to: Place,
     wanted: Wanted,
 ) -> bool
-    ensures { λ r. ⌜ r ≡ anyBelow (λ m. outside (from .0) (to .0) (low + m) && hasEdge (now (blocks .entry)) (passes (now (edges .entry)) wanted) (low + m)) (high - low) ⌝ }
+    ensures { λ r. ⌜ r ≡ anyBelow (λ m. outside (from .0) (to .0) (low .0 + m) && hasEdge (now (blocks .entry)) (passes (now (edges .entry)) wanted) (low .0 + m)) (high .0 - low .0) ⌝ }
 {
-    let mut k = low;
-    while k < high {
+    let mut k = low.0;
+    while k < high.0 {
         if comes_from(blocks, edges, from, to, wanted, Place(k)) {
             return true;
         }
@@ -83,7 +84,15 @@ pub fn single_entry(
     if (end <= firsts.len()) & (end <= lasts.len()) {
         return !has_exposed(firsts, lasts, from, to);
     }
-    !has_outside_edge(blocks, edges, 0, count, from, to, Wanted::Between(from, to))
+    !has_outside_edge(
+        blocks,
+        edges,
+        Place(0),
+        Place(count),
+        from,
+        to,
+        Wanted::Between(from, to),
+    )
 }
 
 // A block outside the places from `from` up to `to` jumps to place i: only blocks between the first and the last source are read.
@@ -105,21 +114,13 @@ pub fn has_outside_jump_to(
     has_outside_edge(blocks, edges, low, high, from, to, Wanted::JumpTo(i))
 }
 
-// A block from `from` up to `to` has an edge to an address below the start of `from`, that of `join` excepted.
-pub fn region_escapes(
-    blocks: &[u16],
-    edges: &[u16],
-    starts: &[u8],
-    targets: &[u8],
-    from: Place,
-    to: Place,
-    join: Place,
-) -> bool
-    ensures { λ r. ⌜ r ≡ escapes (now (blocks .entry)) (now (edges .entry)) (now (starts .entry)) (now (targets .entry)) (from .0) (to .0) (join .0) ⌝ }
+// A block from `from` up to `to` has an edge to an address below the start of `from`, that of `to` excepted.
+pub fn region_escapes(blocks: &[u16], starts: &[u8], targets: &[u8], from: Place, to: Place) -> bool
+    ensures { λ r. ⌜ r ≡ escapes (now (blocks .entry)) (now (starts .entry)) (now (targets .entry)) (from .0) (to .0) ⌝ }
 {
     let mut k = from.0;
     while k < to.0 {
-        if has_leaving_edge(blocks, starts, targets, from, join, Place(k)) {
+        if has_leaving_edge(blocks, starts, targets, from, to, Place(k)) {
             return true;
         }
         k += 1;

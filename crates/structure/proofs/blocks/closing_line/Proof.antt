@@ -3,7 +3,7 @@
 use mathlib.Core.Path.{sym}
 use borrow.Author.Tests.{eq-eqb, ne-eqb}
 use Rattle.structure.specs.Plan.{closingLines}
-use Rattle.structure.specs.Stored.{stored-none, room-one}
+use Rattle.structure.proofs.Storing.{stored-none, room-one}
 use borrow.Author.Needs.{needs}
 use Rattle.structure.proofs.blocks.closing_line.Statement.{statement}
 use Rattle.structure.proofs.blocks.closing_line.Tie as tie

@@ -1,7 +1,7 @@
 -- The block of an if-region: `emit_head` meets its contract.
 -- Its label, its shown instructions, its opening line, one after the other.
-use Rattle.structure.specs.Parts.{head-parts}
-use Rattle.structure.specs.Stored.{room-first, room-second, room-third, stored-three, room-one}
+use Rattle.structure.proofs.Parts.{head-parts}
+use Rattle.structure.proofs.Storing.{room-first, room-second, room-third, stored-three, room-one}
 use borrow.Author.Needs.{needs}
 use Rattle.structure.proofs.blocks.emit_head.Statement.{statement}
 use Rattle.structure.proofs.blocks.emit_head.Tie as tie

@@ -1,7 +1,7 @@
 -- A plain block: `emit_plain` meets its contract.
 -- Its label, its shown instructions, its closing line, one after the other.
-use Rattle.structure.specs.Parts.{plain-parts}
-use Rattle.structure.specs.Stored.{room-first, room-second, room-third, stored-three}
+use Rattle.structure.proofs.Parts.{plain-parts}
+use Rattle.structure.proofs.Storing.{room-first, room-second, room-third, stored-three}
 use borrow.Author.Needs.{needs}
 use Rattle.structure.proofs.blocks.emit_plain.Statement.{statement}
 use Rattle.structure.proofs.blocks.emit_plain.Tie as tie

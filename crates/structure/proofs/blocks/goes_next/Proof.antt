@@ -20,7 +20,7 @@ cast-result-2 : tie.Need-cast-result-2
 cast-result-2 c = search needs
 
 returns : tie.Need-returns
-returns c = simp (c .before .branch-to .ensures .0)
+returns c = simp (c .before .before .branch-to .ensures)
 
 pub goes-next-spec : {M : Type 1} → statement M
 goes-next-spec =

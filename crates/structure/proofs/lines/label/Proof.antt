@@ -1,6 +1,6 @@
 -- A label, if wanted: `label` meets its contract.
 -- By whether it is wanted.
-use Rattle.structure.specs.Stored.{stored-none, room-one}
+use Rattle.structure.proofs.Storing.{stored-none, room-one}
 use borrow.Author.Needs.{needs}
 use Rattle.structure.proofs.lines.label.Statement.{statement}
 use Rattle.structure.proofs.lines.label.Tie as tie

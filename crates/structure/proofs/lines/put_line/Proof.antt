@@ -1,6 +1,7 @@
 -- One line: `put_line` meets its contract.
 -- One store of its code.
 use mathlib.Core.Path.{refl}
+use Rattle.lists.specs.Put.{put}
 use borrow.Author.Needs.{needs}
 use Rattle.structure.proofs.lines.put_line.Statement.{statement}
 use Rattle.structure.proofs.lines.put_line.Tie as tie
@@ -18,6 +19,7 @@ same-length : tie.Need-same-length
 same-length c = search needs
 
 returns : tie.Need-returns
+unfolding put
 returns c = record { next = refl; list = cc }
 
 pub put-line-spec : {M : Type 1} → statement M

@@ -1,7 +1,7 @@
 -- The line of an instruction, if it is shown: `shown_line` meets its contract.
 -- By whether it is shown.
 use mathlib.Core.Path.{sym}
-use Rattle.structure.specs.Stored.{stored-none}
+use Rattle.structure.proofs.Storing.{stored-none}
 use borrow.Author.Needs.{needs}
 use Rattle.structure.proofs.lines.shown_line.Statement.{statement}
 use Rattle.structure.proofs.lines.shown_line.Tie as tie

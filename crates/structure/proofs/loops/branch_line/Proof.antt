@@ -2,7 +2,7 @@
 -- By whether the block ends with one.
 use mathlib.Core.Path.{sym}
 use borrow.Author.Tests.{eq-eqb, ne-eqb}
-use Rattle.structure.specs.Stored.{stored-none, room-one}
+use Rattle.structure.proofs.Storing.{stored-none, room-one}
 use borrow.Author.Needs.{needs}
 use Rattle.structure.proofs.loops.branch_line.Statement.{statement}
 use Rattle.structure.proofs.loops.branch_line.Tie as tie

@@ -1,7 +1,7 @@
 -- The body of a do-loop: `emit_do` meets its contract.
 -- Its blocks before the last, then the last, one after the other.
-use Rattle.structure.specs.Parts.{do-parts}
-use Rattle.structure.specs.Stored.{stored-none, room-second, room-third, stored-three}
+use Rattle.structure.proofs.Parts.{do-parts}
+use Rattle.structure.proofs.Storing.{stored-none, room-second, room-third, stored-three}
 use borrow.Author.Needs.{needs}
 use Rattle.structure.proofs.loops.emit_do.Statement.{statement}
 use Rattle.structure.proofs.loops.emit_do.Tie as tie

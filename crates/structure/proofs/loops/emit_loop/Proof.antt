@@ -1,7 +1,7 @@
 -- A do-loop: `emit_loop` meets its contract.
 -- Its head's label, its do-line, its body, one after the other.
-use Rattle.structure.specs.Parts.{loop-parts}
-use Rattle.structure.specs.Stored.{room-first, room-second, room-third, room-one, stored-three}
+use Rattle.structure.proofs.Parts.{loop-parts}
+use Rattle.structure.proofs.Storing.{room-first, room-second, room-third, room-one, stored-three}
 use borrow.Author.Needs.{needs}
 use Rattle.structure.proofs.loops.emit_loop.Statement.{statement}
 use Rattle.structure.proofs.loops.emit_loop.Tie as tie

@@ -4,8 +4,8 @@ use mathlib.Core.Path.{_≡_, ap, _∙_}
 use Prim.Native.Nat.{ℕ, _-_}
 use Rattle.structure.specs.Plan.{flatLines}
 use Rattle.structure.specs.Codes.{codes}
-use Rattle.structure.specs.Parts.{flats-turn, flats-over}
-use Rattle.structure.specs.Stored.{Left, left-all, left-step, left-done, left-part, left-length}
+use Rattle.structure.proofs.Parts.{flats-turn, flats-over}
+use Rattle.structure.proofs.Storing.{Left, left-all, left-step, left-done, left-part, left-length}
 use borrow.Author.Needs.{needs}
 use native.Mathlib.Omega.{arith}
 use Rattle.structure.proofs.loops.flat_lines.Statement.{statement}

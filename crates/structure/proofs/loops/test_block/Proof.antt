@@ -1,7 +1,7 @@
 -- The last block of a do-body: `test_block` meets its contract.
 -- Its label, its shown instructions before the last, its while-line, one after the other.
-use Rattle.structure.specs.Parts.{test-parts}
-use Rattle.structure.specs.Stored.{room-first, room-second, room-third, stored-three, room-one}
+use Rattle.structure.proofs.Parts.{test-parts}
+use Rattle.structure.proofs.Storing.{room-first, room-second, room-third, stored-three, room-one}
 use borrow.Author.Needs.{needs}
 use Rattle.structure.proofs.loops.test_block.Statement.{statement}
 use Rattle.structure.proofs.loops.test_block.Tie as tie

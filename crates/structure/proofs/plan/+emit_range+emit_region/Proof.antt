@@ -9,9 +9,10 @@ use borrow.Fn.Kinds.{In}
 use borrow.Fn.PlainCycle.{Measures, is, falls, and}
 use Rattle.structure.specs.Plan.{rangeLines}
 use Rattle.structure.specs.Codes.{codes}
-use Rattle.structure.specs.Parts.{region-parts}
-use Rattle.structure.specs.Turns.{range-over, turn-loop, turn-region, turn-plain, loop-reach, region-reach}
-use Rattle.structure.specs.Stored.{Left, left-all, left-step, left-done, left-part, left-length, room-first, room-second, room-third, room-one, stored-three, stored-length}
+use Rattle.structure.proofs.Parts.{region-parts}
+use Rattle.structure.proofs.Turns.{range-over, turn-loop, turn-region, turn-plain, reach}
+use Rattle.structure.proofs.Storing.{Left, left-all, left-step, left-done, left-part, left-length, room-first, room-second, room-third, room-one, stored-three, stored-length}
+use Rattle.structure.specs.declared.shape.Shape.the-variants.{Loop, Region}
 use Rattle.structure.proofs.Sourced.{ends-within}
 use Rattle.structure.proofs.plan.emit_range.Reads as range-reads
 use Rattle.structure.proofs.plan.emit_range.Kinds as range-kinds
@@ -75,41 +76,41 @@ range-emit-loop-requires t c κs =
     let w = l .before .before .before .before .before .before .before .before .before .before in
     let a = w .args in
     let e = sym (s .shape-at .ensures) ∙ k .j .given .1 in
-    let r = loop-reach (a .blocks .now) (a .edges .now) (a .shown .now) (a .starts .now) (a .targets .now) (a .count) (a .from .0) (l .loop .i) (a .to .0) (a .indent) (s .before .loop-test .taken) (k .j .given .0 .0) e in
+    let r = reach (a .blocks .now) (a .edges .now) (a .shown .now) (a .starts .now) (a .targets .now) (a .count) (a .from .0) (l .loop .i) (a .to .0) (a .indent) (s .before .loop-test .taken) (Loop (k .j .given .0 .0)) e in
     (omega (arith, r, w .pre .1 .0), omega (arith, r, w .pre .1 .0, l .loop .inv .0), left-part (l .loop .inv .1) (w .pre .1 .1 .1 .1) (turn-loop (a .blocks .now) (a .edges .now) (a .shown .now) (a .starts .now) (a .targets .now) (a .count) (a .from .0) (l .loop .i) (a .to .0) (a .indent) (s .before .loop-test .taken) (k .j .given .0 .0) e), w .pre .1 .1 .1 .0)
 
 range-add-i : (t : ℕ) → range.Need-add-i (range-known t) (range-at t) range-reads.Post Inv μ-loop
 range-add-i t c =
-    let k = c .before .before .before .before .before in
+    let k = c .before .before .before .before .before .before in
     let s = k .before .before in
     let l = s .before .before in
     let w = l .before .before .before .before .before .before .before .before .before .before in
     let a = w .args in
     let e = sym (s .shape-at .ensures) ∙ k .j .given .1 in
-    let r = loop-reach (a .blocks .now) (a .edges .now) (a .shown .now) (a .starts .now) (a .targets .now) (a .count) (a .from .0) (l .loop .i) (a .to .0) (a .indent) (s .before .loop-test .taken) (k .j .given .0 .0) e in
+    let r = reach (a .blocks .now) (a .edges .now) (a .shown .now) (a .starts .now) (a .targets .now) (a .count) (a .from .0) (l .loop .i) (a .to .0) (a .indent) (s .before .loop-test .taken) (Loop (k .j .given .0 .0)) e in
     omega (arith, r, w .pre .1 .0)
 
 range-loop-less : (t : ℕ) → range.Need-loop-less (range-known t) (range-at t) range-reads.Post Inv μ-loop
 range-loop-less t c =
-    let k = c .before .before .before .before .before in
+    let k = c .before .before .before .before .before .before in
     let s = k .before .before in
     let l = s .before .before in
     let w = l .before .before .before .before .before .before .before .before .before .before in
     let a = w .args in
     let e = sym (s .shape-at .ensures) ∙ k .j .given .1 in
-    let r = loop-reach (a .blocks .now) (a .edges .now) (a .shown .now) (a .starts .now) (a .targets .now) (a .count) (a .from .0) (l .loop .i) (a .to .0) (a .indent) (s .before .loop-test .taken) (k .j .given .0 .0) e in
+    let r = reach (a .blocks .now) (a .edges .now) (a .shown .now) (a .starts .now) (a .targets .now) (a .count) (a .from .0) (l .loop .i) (a .to .0) (a .indent) (s .before .loop-test .taken) (Loop (k .j .given .0 .0)) e in
     omega (arith, r, s .before .loop-test .taken)
 
 range-loop-again : (t : ℕ) → range.Need-loop-again (range-known t) (range-at t) range-reads.Post Inv μ-loop
 range-loop-again t c =
-    let k = c .before .before .before .before .before in
+    let k = c .before .before .before .before .before .before in
     let s = k .before .before in
     let l = s .before .before in
     let w = l .before .before .before .before .before .before .before .before .before .before in
     let a = w .args in
     let e = sym (s .shape-at .ensures) ∙ k .j .given .1 in
-    let r = loop-reach (a .blocks .now) (a .edges .now) (a .shown .now) (a .starts .now) (a .targets .now) (a .count) (a .from .0) (l .loop .i) (a .to .0) (a .indent) (s .before .loop-test .taken) (k .j .given .0 .0) e in
-    (omega (arith, r, l .loop .inv .0), left-step (l .loop .inv .1) (turn-loop (a .blocks .now) (a .edges .now) (a .shown .now) (a .starts .now) (a .targets .now) (a .count) (a .from .0) (l .loop .i) (a .to .0) (a .indent) (s .before .loop-test .taken) (k .j .given .0 .0) e) (c .before .before .emit-loop .ensures))
+    let r = reach (a .blocks .now) (a .edges .now) (a .shown .now) (a .starts .now) (a .targets .now) (a .count) (a .from .0) (l .loop .i) (a .to .0) (a .indent) (s .before .loop-test .taken) (Loop (k .j .given .0 .0)) e in
+    (omega (arith, r, l .loop .inv .0), left-step (l .loop .inv .1) (turn-loop (a .blocks .now) (a .edges .now) (a .shown .now) (a .starts .now) (a .targets .now) (a .count) (a .from .0) (l .loop .i) (a .to .0) (a .indent) (s .before .loop-test .taken) (k .j .given .0 .0) e) (c .before .before .before .emit-loop .ensures))
 
 range-emit-region-requires : (t : ℕ) → range.Need-emit-region-requires (range-known t) (range-at t) range-reads.Post Inv μ-loop
 range-emit-region-requires t c κs =
@@ -119,9 +120,9 @@ range-emit-region-requires t c κs =
     let w = l .before .before .before .before .before .before .before .before .before .before in
     let a = w .args in
     let e = sym (s .shape-at .ensures) ∙ k .t .given .1 in
-    let r = region-reach (a .blocks .now) (a .edges .now) (a .shown .now) (a .starts .now) (a .targets .now) (a .count) (a .from .0) (l .loop .i) (a .to .0) (a .indent) (s .before .loop-test .taken) (k .t .given .0 .0) e in
+    let r = reach (a .blocks .now) (a .edges .now) (a .shown .now) (a .starts .now) (a .targets .now) (a .count) (a .from .0) (l .loop .i) (a .to .0) (a .indent) (s .before .loop-test .taken) (Region (k .t .given .0 .0)) e in
     let room = left-part (l .loop .inv .1) (w .pre .1 .1 .1 .1) (turn-region (a .blocks .now) (a .edges .now) (a .shown .now) (a .starts .now) (a .targets .now) (a .count) (a .from .0) (l .loop .i) (a .to .0) (a .indent) (s .before .loop-test .taken) (k .t .given .0 .0) e) in
-    let ends = ends-within (a .blocks .now) (a .edges .now) (a .from .0) (a .to .0) (l .loop .i + 1) (k .t .given .0 .0) (a .ends .now) (w .pre .1 .1 .0) (omega (arith, l .loop .inv .0)) (omega (arith, r)) in
+    let ends = ends-within (a .blocks .now) (a .edges .now) (a .from .0) (a .to .0) (l .loop .i + 1) (k .t .given .0 .0 .0) (a .ends .now) (w .pre .1 .1 .0) (omega (arith, l .loop .inv .0)) (omega (arith, r)) in
     (omega (arith, r, w .pre .0, l .loop .inv .0), ((omega (arith, r), omega (arith, r, w .pre .1 .0), omega (arith, r, w .pre .1 .0, l .loop .inv .0)), (ends, (w .pre .1 .1 .1 .0, room))))
 
 range-loop-less-2 : (t : ℕ) → range.Need-loop-less-2 (range-known t) (range-at t) range-reads.Post Inv μ-loop
@@ -132,7 +133,7 @@ range-loop-less-2 t c =
     let w = l .before .before .before .before .before .before .before .before .before .before in
     let a = w .args in
     let e = sym (s .shape-at .ensures) ∙ k .t .given .1 in
-    let r = region-reach (a .blocks .now) (a .edges .now) (a .shown .now) (a .starts .now) (a .targets .now) (a .count) (a .from .0) (l .loop .i) (a .to .0) (a .indent) (s .before .loop-test .taken) (k .t .given .0 .0) e in
+    let r = reach (a .blocks .now) (a .edges .now) (a .shown .now) (a .starts .now) (a .targets .now) (a .count) (a .from .0) (l .loop .i) (a .to .0) (a .indent) (s .before .loop-test .taken) (Region (k .t .given .0 .0)) e in
     omega (arith, r, s .before .loop-test .taken)
 
 range-loop-again-2 : (t : ℕ) → range.Need-loop-again-2 (range-known t) (range-at t) range-reads.Post Inv μ-loop
@@ -143,7 +144,7 @@ range-loop-again-2 t c =
     let w = l .before .before .before .before .before .before .before .before .before .before in
     let a = w .args in
     let e = sym (s .shape-at .ensures) ∙ k .t .given .1 in
-    let r = region-reach (a .blocks .now) (a .edges .now) (a .shown .now) (a .starts .now) (a .targets .now) (a .count) (a .from .0) (l .loop .i) (a .to .0) (a .indent) (s .before .loop-test .taken) (k .t .given .0 .0) e in
+    let r = reach (a .blocks .now) (a .edges .now) (a .shown .now) (a .starts .now) (a .targets .now) (a .count) (a .from .0) (l .loop .i) (a .to .0) (a .indent) (s .before .loop-test .taken) (Region (k .t .given .0 .0)) e in
     (omega (arith, r, l .loop .inv .0), left-step (l .loop .inv .1) (turn-region (a .blocks .now) (a .edges .now) (a .shown .now) (a .starts .now) (a .targets .now) (a .count) (a .from .0) (l .loop .i) (a .to .0) (a .indent) (s .before .loop-test .taken) (k .t .given .0 .0) e) (c .before .before .emit-region .ensures))
 
 range-emit-plain-requires : (t : ℕ) → range.Need-emit-plain-requires (range-known t) (range-at t) range-reads.Post Inv μ-loop
@@ -182,7 +183,7 @@ region-emit-head-requires : (t : ℕ) → region.Need-emit-head-requires (region
 region-emit-head-requires t c κs =
     let w = c .before .before .before .before .before .before .before .before .before .before in
     let a = w .args in
-    (omega (arith, w .pre .1 .0), room-first (region-parts (a .blocks .now) (a .edges .now) (a .shown .now) (a .count) (rangeLines (a .blocks .now) (a .edges .now) (a .shown .now) (a .starts .now) (a .targets .now) (a .count)) (a .from .0) (a .i .0) (a .t .0) (a .to .0) (a .indent)) (w .pre .1 .1 .1 .1), w .pre .1 .1 .1 .0)
+    (omega (arith, w .pre .1 .0), room-first (region-parts (a .blocks .now) (a .edges .now) (a .shown .now) (a .count) (rangeLines (a .blocks .now) (a .edges .now) (a .shown .now) (a .starts .now) (a .targets .now) (a .count) (a .i .0 + 1) (a .i .0 + 1) (a .t .0) (a .indent + 1)) (a .from .0) (a .i .0) (a .to .0) (a .indent)) (w .pre .1 .1 .1 .1), w .pre .1 .1 .1 .0)
 
 region-add-t21 : (t : ℕ) → region.Need-add-t21 (region-known t) (region-at t) region-reads.Post
 region-add-t21 t c =
@@ -197,7 +198,7 @@ region-emit-range-requires t c κs =
     let h = c .before .before .before .before in
     let w = h .before .before .before .before .before .before .before .before .before .before .before in
     let a = w .args in
-    (omega (arith, w .pre .0, w .pre .1 .0), ((omega (arith, w .pre .1 .0), omega (arith, w .pre .1 .0)), (w .pre .1 .1 .0, (w .pre .1 .1 .1 .0, room-second (region-parts (a .blocks .now) (a .edges .now) (a .shown .now) (a .count) (rangeLines (a .blocks .now) (a .edges .now) (a .shown .now) (a .starts .now) (a .targets .now) (a .count)) (a .from .0) (a .i .0) (a .t .0) (a .to .0) (a .indent)) (h .emit-head .ensures) (w .pre .1 .1 .1 .1)))))
+    (omega (arith, w .pre .0, w .pre .1 .0), ((omega (arith, w .pre .1 .0), omega (arith, w .pre .1 .0)), (w .pre .1 .1 .0, (w .pre .1 .1 .1 .0, room-second (region-parts (a .blocks .now) (a .edges .now) (a .shown .now) (a .count) (rangeLines (a .blocks .now) (a .edges .now) (a .shown .now) (a .starts .now) (a .targets .now) (a .count) (a .i .0 + 1) (a .i .0 + 1) (a .t .0) (a .indent + 1)) (a .from .0) (a .i .0) (a .to .0) (a .indent)) (h .emit-head .ensures) (w .pre .1 .1 .1 .1)))))
 
 region-put-line-requires : (t : ℕ) → region.Need-put-line-requires (region-known t) (region-at t) region-reads.Post
 region-put-line-requires t c κs =
@@ -205,7 +206,7 @@ region-put-line-requires t c κs =
     let h = m .before .before .before .before .before in
     let w = h .before .before .before .before .before .before .before .before .before .before .before in
     let a = w .args in
-    let room = room-third (region-parts (a .blocks .now) (a .edges .now) (a .shown .now) (a .count) (rangeLines (a .blocks .now) (a .edges .now) (a .shown .now) (a .starts .now) (a .targets .now) (a .count)) (a .from .0) (a .i .0) (a .t .0) (a .to .0) (a .indent)) (h .emit-head .ensures) (m .emit-range .ensures) (w .pre .1 .1 .1 .1) in
+    let room = room-third (region-parts (a .blocks .now) (a .edges .now) (a .shown .now) (a .count) (rangeLines (a .blocks .now) (a .edges .now) (a .shown .now) (a .starts .now) (a .targets .now) (a .count) (a .i .0 + 1) (a .i .0 + 1) (a .t .0) (a .indent + 1)) (a .from .0) (a .i .0) (a .to .0) (a .indent)) (h .emit-head .ensures) (m .emit-range .ensures) (w .pre .1 .1 .1 .1) in
     (omega arith, omega arith, omega (arith, w .pre .1 .0), room-one room)
 
 region-returns : (t : ℕ) → region.Need-returns (region-known t) (region-at t) region-reads.Post
@@ -214,7 +215,7 @@ region-returns t c =
     let m = p .before .before .before .before in
     let h = m .before .before .before .before .before in
     let a = h .before .before .before .before .before .before .before .before .before .before .before .args in
-    stored-three (region-parts (a .blocks .now) (a .edges .now) (a .shown .now) (a .count) (rangeLines (a .blocks .now) (a .edges .now) (a .shown .now) (a .starts .now) (a .targets .now) (a .count)) (a .from .0) (a .i .0) (a .t .0) (a .to .0) (a .indent)) (h .emit-head .ensures) (m .emit-range .ensures) (p .put-line .ensures)
+    stored-three (region-parts (a .blocks .now) (a .edges .now) (a .shown .now) (a .count) (rangeLines (a .blocks .now) (a .edges .now) (a .shown .now) (a .starts .now) (a .targets .now) (a .count) (a .i .0 + 1) (a .i .0 + 1) (a .t .0) (a .indent + 1)) (a .from .0) (a .i .0) (a .to .0) (a .indent)) (h .emit-head .ensures) (m .emit-range .ensures) (p .put-line .ensures)
 
 pub +emit-range+emit-region-spec : {M : Type 1} → statement M
 +emit-range+emit-region-spec =

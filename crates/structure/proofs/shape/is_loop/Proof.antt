@@ -1,9 +1,12 @@
 -- Whether a loop stands from one place to another: `is_loop` meets its contract.
 -- By whether it has more than one block.
-use borrow.Author.Tests.{lt-ltb, le-ltb}
+use mathlib.Core.Path.{sym}
 use borrow.Author.Needs.{needs}
 use Rattle.structure.proofs.shape.is_loop.Statement.{statement}
 use Rattle.structure.proofs.shape.is_loop.Tie as tie
+
+is-before-requires : tie.Need-is-before-requires
+is-before-requires c κs = search needs
 
 add-t9 : tie.Need-add-t9
 add-t9 c = search needs
@@ -12,10 +15,10 @@ single-entry-requires : tie.Need-single-entry-requires
 single-entry-requires c κs = search needs
 
 returns : tie.Need-returns
-returns c = simp (lt-ltb _ _ (c .before .before .if1 .taken), c .single-entry .ensures)
+returns c = simp (sym (c .before .before .before .is-before .ensures), c .before .before .if1 .taken, c .single-entry .ensures)
 
 returns-2 : tie.Need-returns-2
-returns-2 c = simp (le-ltb _ _ (c .if1 .left))
+returns-2 c = simp (sym (c .before .is-before .ensures), c .if1 .left)
 
 pub is-loop-spec : {M : Type 1} → statement M
-is-loop-spec = tie.close (tie.spec add-t9 single-entry-requires returns returns-2)
+is-loop-spec = tie.close (tie.spec is-before-requires add-t9 single-entry-requires returns returns-2)

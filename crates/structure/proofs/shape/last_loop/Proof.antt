@@ -7,6 +7,7 @@ use Rattle.lists.specs.Choice.{pick}
 use Rattle.structure.specs.Graph.{closesLoop}
 use Rattle.record.specs.Search.{lastFrom}
 use Rattle.record.specs.declared.search.Found.the-variants.{At}
+use Rattle.structure.specs.Shape.{foundPlace, lastLoop}
 use Rattle.structure.proofs.Sourced.{search-behind}
 use Rattle.record.specs.SearchLaws.{last-turn, last-over}
 use borrow.Author.Needs.{needs}
@@ -32,6 +33,7 @@ closes-loop-requires : tie.Need-closes-loop-requires Inv-loop μ-loop
 closes-loop-requires c κs = search needs
 
 returns : tie.Need-returns Inv-loop μ-loop
+unfolding lastLoop
 returns c =
     let t = c .before in
     let l = t .before .before .before in
@@ -39,9 +41,10 @@ returns c =
     let s = l .before .before .before .before .before in
     let a = s .args in
     let n = l .loop .j in
-    sym (ap (λ (b : Bool). pick b (At (n - 1)) (lastFrom (closesLoop (a .blocks .now) (a .edges .now) (a .i .0)) (a .i .0) (n - 1 - a .i .0))) (sym (t .closes-loop .ensures) ∙ c .if2 .taken))
+    ap foundPlace
+    (sym (ap (λ (b : Bool). pick b (At (n - 1)) (lastFrom (closesLoop (a .blocks .now) (a .edges .now) (a .i .0)) (a .i .0) (n - 1 - a .i .0))) (sym (t .closes-loop .ensures) ∙ c .if2 .taken))
     ∙ sym (last-turn (closesLoop (a .blocks .now) (a .edges .now) (a .i .0)) (a .i .0) n (search needs)) ∙ l .loop .inv .1
-    ∙ search-behind (a .blocks .now) (a .edges .now) (a .ends .now) (a .i .0) (a .to .0) (e .result) (s .pre) (e .ensures)
+    ∙ search-behind (a .blocks .now) (a .edges .now) (a .ends .now) (a .i .0) (a .to .0) (e .result .0) (s .pre) (e .ensures))
 
 loop-less : tie.Need-loop-less Inv-loop μ-loop
 loop-less c = search needs
@@ -58,13 +61,15 @@ loop-again c =
     )
 
 returns-2 : tie.Need-returns-2 Inv-loop μ-loop
+unfolding lastLoop
 returns-2 c =
     let l = c .before .before in
     let e = l .before .search-end in
     let s = l .before .before .before .before .before in
     let a = s .args in
-    sym (last-over (closesLoop (a .blocks .now) (a .edges .now) (a .i .0)) (a .i .0) (l .loop .j) (search needs)) ∙ l .loop .inv .1
-    ∙ search-behind (a .blocks .now) (a .edges .now) (a .ends .now) (a .i .0) (a .to .0) (e .result) (s .pre) (e .ensures)
+    ap foundPlace
+    (sym (last-over (closesLoop (a .blocks .now) (a .edges .now) (a .i .0)) (a .i .0) (l .loop .j) (search needs)) ∙ l .loop .inv .1
+    ∙ search-behind (a .blocks .now) (a .edges .now) (a .ends .now) (a .i .0) (a .to .0) (e .result .0) (s .pre) (e .ensures))
 
 pub last-loop-spec : {M : Type 1} → statement M
 last-loop-spec =

@@ -32,22 +32,22 @@ returns : tie.Need-returns
 unfolding opensRegion
 returns c =
     let q = c .before .before in
-    let p = q .before .before in
-    let e = p .before .before .before in
-    simp (sym (e .ending-in .ensures), eq-eqb _ _ (p .before .before .if1 .taken), sym (e .before .branch-to .ensures .0), lt-ltb _ _ (p .if2 .taken), le-leb _ _ (q .if3 .taken), c .is-region .ensures)
+    let p = q .before .before .before in
+    let e = p .before .before .before .before in
+    simp (sym (e .ending-in .ensures), eq-eqb _ _ (p .before .before .before .if1 .taken), sym (e .before .branch-to .ensures), lt-ltb _ _ (p .if2 .taken), le-leb _ _ (q .if3 .taken), c .is-region .ensures)
 
 returns-2 : tie.Need-returns-2
 unfolding opensRegion
 returns-2 c =
-    let p = c .before .before in
-    let e = p .before .before .before in
-    simp (sym (e .ending-in .ensures), eq-eqb _ _ (p .before .before .if1 .taken), sym (e .before .branch-to .ensures .0), lt-ltb _ _ (p .if2 .taken), lt-leb _ _ (c .if3 .left))
+    let p = c .before .before .before in
+    let e = p .before .before .before .before in
+    simp (sym (e .ending-in .ensures), eq-eqb _ _ (p .before .before .before .if1 .taken), sym (e .before .branch-to .ensures), lt-ltb _ _ (p .if2 .taken), lt-leb _ _ (c .if3 .left))
 
 returns-3 : tie.Need-returns-3
 unfolding opensRegion
 returns-3 c =
-    let e = c .before .before .before in
-    simp (sym (e .ending-in .ensures), eq-eqb _ _ (c .before .before .if1 .taken), sym (e .before .branch-to .ensures .0), le-ltb _ _ (c .if2 .left))
+    let e = c .before .before .before .before in
+    simp (sym (e .ending-in .ensures), eq-eqb _ _ (c .before .before .before .if1 .taken), sym (e .before .branch-to .ensures), le-ltb _ _ (c .if2 .left))
 
 returns-4 : tie.Need-returns-4
 unfolding opensRegion

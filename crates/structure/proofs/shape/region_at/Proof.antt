@@ -1,7 +1,9 @@
 -- An if-region or a plain block: `region_at` meets its contract.
 -- By whether a region stands there.
-use mathlib.Core.Path.{sym}
-use Rattle.structure.specs.Shape.{regionAt}
+use mathlib.Core.Path.{sym, ap}
+use Prim.Native.Nat.{ℕ}
+use Rattle.structure.specs.Shape.{place, regionAt}
+use Rattle.structure.specs.declared.shape.Shape.the-variants.{Region}
 use borrow.Author.Needs.{needs}
 use Rattle.structure.proofs.shape.region_at.Statement.{statement}
 use Rattle.structure.proofs.shape.region_at.Tie as tie
@@ -14,7 +16,7 @@ branch-to-requires c κs = search needs
 
 returns : tie.Need-returns
 unfolding regionAt
-returns c = simp (sym (c .before .before .opens-region .ensures), c .before .if1 .taken, c .branch-to .ensures .0)
+returns c = simp (sym (c .before .before .opens-region .ensures), c .before .if1 .taken) (ap (λ (k : ℕ). Region (place k)) (c .branch-to .ensures))
 
 returns-2 : tie.Need-returns-2
 unfolding regionAt

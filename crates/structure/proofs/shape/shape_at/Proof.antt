@@ -2,8 +2,7 @@
 -- By what the search for a loop found, which lies before the range's end.
 use mathlib.Core.Path.{sym, _∙_}
 use Prim.Native.Nat.{_<_}
-use Rattle.structure.specs.Graph.{closesLoop}
-use Rattle.structure.specs.Within.{last-before}
+use Rattle.structure.proofs.Within.{loop-before}
 use Rattle.structure.proofs.Stands.{stands-loop, stands-no-loop, stands-alone}
 use borrow.Author.Needs.{needs}
 use native.Mathlib.Omega.{arith}
@@ -22,7 +21,7 @@ is-loop-requires c κs =
     let l = c .before .before .before in
     let a = l .before .before .before .before .before .before .before .before .args in
     let fits : a .to .0 < 65536 = l .before .before .before .before .before .before .before .before .good .1 .1 .1 .1 .1 .1 .1 .1 .1 .0 .1 .1 .0 .1 in
-    (l .before .before .before .before .before .before .before .before .pre .1, omega (arith, last-before (closesLoop (a .blocks .now) (a .edges .now) (a .i .0)) (a .i .0) (a .to .0) (f .given .0 .0) (sym (l .last-loop .ensures) ∙ f .given .1)))
+    (l .before .before .before .before .before .before .before .before .pre .1, omega (arith, loop-before (a .blocks .now) (a .edges .now) (a .i .0) (a .to .0) (f .given .0 .0) (sym (l .last-loop .ensures) ∙ f .given .1)))
 
 returns : tie.Need-returns
 returns c =

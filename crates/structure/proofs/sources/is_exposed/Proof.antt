@@ -1,6 +1,5 @@
 -- Whether a place may have an edge from elsewhere: `is_exposed` meets its contract.
 -- By the tests in order.
-use mathlib.Core.Bool.{or-true}
 use borrow.Author.Tests.{le-leb, lt-leb}
 use borrow.Author.Needs.{needs}
 use Rattle.structure.proofs.sources.is_exposed.Statement.{statement}

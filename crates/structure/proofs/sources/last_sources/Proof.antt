@@ -1,7 +1,7 @@
 -- One more than the last source of each place: `last_sources` meets its contract.
 -- The invariant: the entries are those of the blocks so far.
 use mathlib.Core.Path.{_≡_}
-use Prim.Native.Nat.{_+_, _-_, _≤_}
+use Prim.Native.Nat.{_-_, _≤_}
 use Rattle.structure.specs.Sources.{Entries, isSource, lastSource}
 use Rattle.structure.proofs.Sourced.{last-none-yet, last-turn-noted}
 use native.Mathlib.Omega.{arith}

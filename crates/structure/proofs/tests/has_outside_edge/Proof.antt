@@ -17,23 +17,24 @@ abbrev comesFrom : List ℕ → List ℕ → ℕ → ℕ → Wanted → ℕ → 
 comesFrom blocks edges from to wanted k = outside from to k && hasEdge blocks (passes edges wanted) k
 
 abbrev Inv-loop : tie.InvT-loop
-Inv-loop blocks edges low high from to wanted k₀ k = (low ≤ k) × (k - low ≤ high - low) × (anyBelow (λ m. comesFrom blocks edges (from .0) (to .0) wanted (low + m)) (k - low) ≡ false)
+Inv-loop blocks edges high from to wanted k₀ k =
+    (k₀ ≤ k) × (k - k₀ ≤ high .0 - k₀) × (anyBelow (λ m. comesFrom blocks edges (from .0) (to .0) wanted (k₀ + m)) (k - k₀) ≡ false)
 
 abbrev μ-loop : tie.MeasureT-loop
-μ-loop blocks edges low high from to wanted k₀ k = high - k
+μ-loop blocks edges high from to wanted k₀ k = high .0 - k
 
 loop-holds : tie.Need-loop-holds Inv-loop μ-loop
-loop-holds c =
-    let e : (c .before .before .args) .low - (c .before .before .args) .low ≡ 0 = omega arith in
-    (search needs, search needs, rw e)
+loop-holds c = let e : c .before .before .args .low .0 - c .before .before .args .low .0 ≡ 0 = omega arith in (search needs, search needs, rw e)
 
 comes-from-requires : tie.Need-comes-from-requires Inv-loop μ-loop
 comes-from-requires c κs = search needs
 
 returns : tie.Need-returns Inv-loop μ-loop
 returns c =
-    let a = (c .before .before .before .before .before .before .args) in
-    sym (place-found (comesFrom (a .blocks .now) (a .edges .now) (a .from .0) (a .to .0) (a .wanted)) (a .low) ((c .before .before .before .loop) .k) ((c .before .before .before .loop) .inv .0) (a .high) (search needs) (sym ((c .before .comes-from) .ensures) ∙ (c .if1) .taken))
+    let t = c .before in
+    let l = t .before .before .before in
+    let a = l .before .before .before .args in
+    sym (place-found (comesFrom (a .blocks .now) (a .edges .now) (a .from .0) (a .to .0) (a .wanted)) (a .low .0) (l .loop .k) (l .loop .inv .0) (a .high .0) (search needs) (sym (t .comes-from .ensures) ∙ c .if2 .taken))
 
 add-k : tie.Need-add-k Inv-loop μ-loop
 add-k c = search needs
@@ -43,13 +44,17 @@ loop-less c = search needs
 
 loop-again : tie.Need-loop-again Inv-loop μ-loop
 loop-again c =
-    let a = (c .before .before .before .before .before .before .args) in
-    (search needs, search needs, place-goes-on (comesFrom (a .blocks .now) (a .edges .now) (a .from .0) (a .to .0) (a .wanted)) (a .low) ((c .before .before .before .loop) .k) ((c .before .before .before .loop) .inv .0) ((c .before .before .before .loop) .inv .2) (sym ((c .before .comes-from) .ensures) ∙ (c .if1) .left))
+    let t = c .before in
+    let l = t .before .before .before in
+    let a = l .before .before .before .args in
+    (search needs, search needs, place-goes-on (comesFrom (a .blocks .now) (a .edges .now) (a .from .0) (a .to .0) (a .wanted)) (a .low .0) (l .loop .k) (l .loop .inv .0) (l .loop .inv .2) (sym (t .comes-from .ensures) ∙ c .if2 .left))
 
 returns-2 : tie.Need-returns-2 Inv-loop μ-loop
 returns-2 c =
-    let e : (c .before .loop) .k - (c .before .before .before .before .args) .low ≡ (c .before .before .before .before .args) .high - (c .before .before .before .before .args) .low = omega arith in
-    sym (rw e at ((c .before .loop) .inv .2))
+    let l = c .before .before in
+    let a = l .before .before .before .args in
+    let e : l .loop .k - a .low .0 ≡ a .high .0 - a .low .0 = omega arith in
+    sym (rw e at (l .loop .inv .2))
 
 pub has-outside-edge-spec : {M : Type 1} → statement M
 has-outside-edge-spec =

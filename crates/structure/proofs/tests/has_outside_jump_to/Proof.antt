@@ -18,7 +18,7 @@ has-outside-edge-requires c κs = search needs
 returns : tie.Need-returns
 returns c =
     let a = (c .before .before .before .before .before .before .before .args) in
-    (c .has-outside-edge) .ensures ∙ jumps-between (a .blocks .now) (a .edges .now) (a .count) (a .firsts .now) (a .lasts .now) (c .before .before .before .before .before .before .before .pre) (a .from .0) (a .to .0) (a .i .0) ((c .before .before .search-start) .result) ((c .before .search-end) .result) ((c .before .before .search-start) .ensures) ((c .before .search-end) .ensures)
+    (c .has-outside-edge) .ensures ∙ jumps-between (a .blocks .now) (a .edges .now) (a .count) (a .firsts .now) (a .lasts .now) (c .before .before .before .before .before .before .before .pre) (a .from .0) (a .to .0) (a .i .0) ((c .before .before .search-start) .result .0) ((c .before .search-end) .result .0) ((c .before .before .search-start) .ensures) ((c .before .search-end) .ensures)
 
 pub has-outside-jump-to-spec : {M : Type 1} → statement M
 has-outside-jump-to-spec =

@@ -1,10 +1,9 @@
 -- Whether a part of the order is entered only at its first place: `single_entry` meets its contract.
 -- By whether its places have entries in the lists of sources.
-use mathlib.Core.Path.{sym, ap, _∙_}
+use mathlib.Core.Path.{ap, _∙_}
 use mathlib.Core.Bool.{not, _&&_}
 use lib.Dec.{leb}
 use lib.ListN.{length}
-use native.Mathlib.Omega.{arith}
 use borrow.Author.Tests.{leb-true}
 use Rattle.structure.specs.Graph.{outside, enters, hasEdge, singleEntry}
 use Rattle.lists.specs.Every.{both-yes}

@@ -6,7 +6,8 @@ use Prim.Native.Nat.{ℕ}
 use Rattle.structure.specs.Graph.{closesLoop, hasEdge, endingIn, singleEntry, escapes, outsideJump}
 use Rattle.record.specs.Search.{lastFrom}
 use Rattle.structure.specs.Shape.{shapeAt, lastLoop, regionAt, opensRegion}
-use Rattle.structure.specs.Plan.{line, planOf, rangeLines, rangeGo, plainLines, shownLines, bodyCount, closingLines, loopLines, flatLines, flatBlock, testBlock}
+use Rattle.structure.specs.Tree.{treeOf, treeGo}
+use Rattle.structure.specs.Plan.{line, planOf, rangeLines, treeLines, plainLines, shownLines, bodyCount, closingLines, loopLines, flatLines, flatBlock, testBlock}
 use Rattle.structure.specs.Plan.What.{label-line, do-line, open-line, if-goto, while-line, close-line, insn-line}
 
 -- an address below 256, in eight bytes
@@ -19,7 +20,7 @@ example : planOf
     (2 ∷ 1 ∷ 1 ∷ 2 ∷ 2 ∷ 3 ∷ []) (0 ∷ 0 ∷ 1 ∷ 1 ∷ [])
     (bytes 0 (bytes 4 (bytes 16 []))) (bytes 16 (bytes 4 (bytes 16 []))) 3 0 3 1
     ≡ line open-line 0 1 1 ∷ line insn-line 1 2 2 ∷ line close-line 0 0 1 ∷ line label-line 2 0 0 ∷ line insn-line 2 3 1 ∷ []
-unfolding rangeLines rangeGo shapeAt lastLoop lastFrom closesLoop hasEdge endingIn regionAt opensRegion singleEntry escapes outsideJump plainLines shownLines bodyCount closingLines loopLines flatLines flatBlock testBlock
+unfolding rangeLines treeLines treeOf treeGo shapeAt lastLoop lastFrom closesLoop hasEdge endingIn regionAt opensRegion singleEntry escapes outsideJump plainLines shownLines bodyCount closingLines loopLines flatLines flatBlock testBlock
 example = refl
 
 -- "(j) self-loop: if-goto, no do"
@@ -27,7 +28,7 @@ self-loop : planOf
     (0 ∷ 2 ∷ 0 ∷ 2 ∷ 1 ∷ 2 ∷ 0 ∷ 0 ∷ 2 ∷ 1 ∷ 2 ∷ 0 ∷ 0 ∷ 0 ∷ 65535 ∷ 0 ∷ [])
     (0 ∷ 1 ∷ 1 ∷ 2 ∷ []) (1 ∷ 0 ∷ 1 ∷ []) (bytes 0 (bytes 4 [])) (bytes 0 (bytes 4 [])) 2 0 2 1
     ≡ line insn-line 0 0 1 ∷ line if-goto 0 1 1 ∷ line insn-line 1 2 1 ∷ []
-unfolding rangeLines rangeGo shapeAt lastLoop lastFrom closesLoop hasEdge endingIn regionAt opensRegion singleEntry escapes outsideJump plainLines shownLines bodyCount closingLines loopLines flatLines flatBlock testBlock
+unfolding rangeLines treeLines treeOf treeGo shapeAt lastLoop lastFrom closesLoop hasEdge endingIn regionAt opensRegion singleEntry escapes outsideJump plainLines shownLines bodyCount closingLines loopLines flatLines flatBlock testBlock
 self-loop = refl
 
 -- two blocks, the second with a True edge back to the first; both want a label, and the head gets none
@@ -35,5 +36,5 @@ do-loop : planOf
     (0 ∷ 1 ∷ 0 ∷ 1 ∷ 1 ∷ 0 ∷ 65535 ∷ 0 ∷ 1 ∷ 2 ∷ 1 ∷ 2 ∷ 1 ∷ 2 ∷ 0 ∷ 0 ∷ 3 ∷ 1 ∷ 3 ∷ 0 ∷ 0 ∷ 0 ∷ 65535 ∷ 0 ∷ [])
     (1 ∷ 3 ∷ 0 ∷ 1 ∷ 2 ∷ 2 ∷ []) (1 ∷ 1 ∷ 0 ∷ 1 ∷ []) (bytes 0 (bytes 4 (bytes 16 []))) (bytes 4 (bytes 0 (bytes 16 []))) 3 0 3 1
     ≡ line do-line 0 0 1 ∷ line insn-line 0 0 2 ∷ line label-line 1 0 1 ∷ line insn-line 1 1 2 ∷ line while-line 1 2 1 ∷ line insn-line 2 3 1 ∷ []
-unfolding rangeLines rangeGo shapeAt lastLoop lastFrom closesLoop hasEdge endingIn regionAt opensRegion singleEntry escapes outsideJump plainLines shownLines bodyCount closingLines loopLines flatLines flatBlock testBlock
+unfolding rangeLines treeLines treeOf treeGo shapeAt lastLoop lastFrom closesLoop hasEdge endingIn regionAt opensRegion singleEntry escapes outsideJump plainLines shownLines bodyCount closingLines loopLines flatLines flatBlock testBlock
 do-loop = refl

@@ -1,23 +1,23 @@
 -- A range has at most a line for each of its instructions and two for each of its blocks.
--- A block has a label at most and a line for each instruction; a loop or a region has one line more.
+-- A block has a label at most and a line for each instruction; a loop or a region has one line more. An induction over the tree.
 use mathlib.Core.Path.{_≡_, refl, ap, _∙_}
-use mathlib.Core.Bool.{Bool, true, false, _&&_, _||_}
+use mathlib.Core.Bool.{Bool, true, false, _&&_}
 use mathlib.Core.List.{List, [], _∷_}
 use Prim.Native.Nat.{ℕ, zero, suc, _+_, _-_, _*_, _≤_, _<_, zero-le}
 use native.Mathlib.Nat.{le-refl}
 use native.Mathlib.Omega.{arith}
-use lib.Dec.{ltb, eqb}
+use lib.Dec.{ltb}
 use lib.ListN.{getD, length, length-append}
 use borrow.Author.Tests.{eq-eqb}
 use Rattle.lists.specs.Choice.{pick, sumBelow}
-use Rattle.structure.specs.Graph.{firstIn, countIn, endingIn, branchTo, isBlock, lastIn, isShown, labelWanted}
-use Rattle.structure.specs.Plan.{Line, Go, line, labelIf, shownLines, bodyCount, closingLines, plainLines, flatBlock, flatLines, testBlock, loopLines, step, planOf}
-use Rattle.structure.specs.Plan.What.{if-goto, goto-line, tail-call}
-use Rattle.structure.specs.Demand.{Context, instructionsFrom}
-use Rattle.structure.specs.Within.{Within, pick-both, ends-some, labelled, headLabelled}
-use Rattle.structure.specs.Ranges.{Of, Below, range-all}
-use Rattle.structure.specs.declared.shape.Shape.{Shape}
-use Rattle.structure.specs.declared.shape.Shape.the-variants.{Loop, Region, Plain}
+use Rattle.structure.specs.Graph.{firstIn, countIn, endingIn, endsInBranch, endsInJmp, branchTo, isBlock, lastIn, isShown, labelWanted}
+use Rattle.structure.specs.Tree.{Tree, treeOf}
+use Rattle.structure.specs.Tree.Tree.{over, plain, region, loop}
+use Rattle.structure.specs.Plan.{Line, line, labelIf, labelled, headLabelled, shownLines, bodyCount, goesNext, branchLines, closingLines, plainLines, flatBlock, flatLines, testBlock, loopLines, regionLines, treeLines, rangeLines, planOf}
+use Rattle.structure.specs.Plan.What.{goto-line, tail-call}
+use Rattle.structure.specs.Demand.{instructionsFrom}
+use Rattle.structure.proofs.Within.{pick-both, ends-some, closes-some}
+use Rattle.structure.proofs.Grown.{Fits, tree-fits}
 
 -- ---- sums over places
 
@@ -53,12 +53,12 @@ sum-bound : (c : ℕ → ℕ) (n : ℕ) → ((k : ℕ) → c k < 65536) → sumB
 sum-bound c zero h = zero-le
 sum-bound c (suc n) h = omega (arith, sum-bound c n h, h n)
 
-module _ (blocks edges shown starts targets : List ℕ) (B : ℕ) where
+module _ (blocks edges shown : List ℕ) (B : ℕ) where
   abbrev counts : ℕ → ℕ
   counts k = countIn blocks k
 
   abbrev total : ℕ → ℕ → ℕ
-  total i to = instructionsFrom blocks edges shown starts targets B i to
+  total i to = instructionsFrom blocks i to
 
   total-split : (i t to : ℕ) → i ≤ t → t ≤ to → total i to ≡ total i t + total t to
   total-split i t to p q = sum-split counts i t to p q
@@ -67,12 +67,8 @@ module _ (blocks edges shown starts targets : List ℕ) (B : ℕ) where
   total-one i = sum-one counts i
 
   -- ---- blocks
-  one-at-most : (b : Bool) (x : Line) → length (pick b (x ∷ []) []) ≤ 1
-  one-at-most true x = le-refl 1
-  one-at-most false x = zero-le
-
   label-few : (b : Bool) (k d : ℕ) → length (labelIf b k d) ≤ 1
-  label-few b k d = one-at-most b _
+  label-few b k d = pick-both (λ (l : List Line). length l ≤ 1) b _ _ (λ _. le-refl 1) (λ _. zero-le)
 
   lines-few : (k i n d : ℕ) → length (shownLines shown k i n d) ≤ n
   unfolding shownLines
@@ -87,28 +83,27 @@ module _ (blocks edges shown starts targets : List ℕ) (B : ℕ) where
 
   closing-few : (k to d : ℕ) → bodyCount blocks k + length (closingLines blocks k to d) ≤ counts k
   unfolding bodyCount closingLines
-  closing-few k to d = by (eqb (endingIn blocks k) 2) (eqb (endingIn blocks k) 3) refl refl
+  closing-few k to d = by (endsInBranch blocks k) (endsInJmp blocks k) refl refl
     where
-      by : (b₂ b₃ : Bool) → eqb (endingIn blocks k) 2 ≡ b₂ → eqb (endingIn blocks k) 3 ≡ b₃
+      by : (b₂ b₃ : Bool) → endsInBranch blocks k ≡ b₂ → endsInJmp blocks k ≡ b₃
           → bodyCount blocks k + length (closingLines blocks k to d) ≤ counts k
       by true b₃ p q = rw p (omega (arith, ends-some blocks k 1 p))
-      by false true p q = rw (p, q) (omega (arith, ends-some blocks k 2 q, jump-few (eqb (branchTo blocks k) (k + 1) && ltb (k + 1) to) (line (pick (isBlock (branchTo blocks k)) goto-line tail-call) k (lastIn blocks k) d)))
+      by false true p q = rw (p, q) (omega (arith, ends-some blocks k 2 q, jump-few (goesNext blocks k to) (line (pick (isBlock (branchTo blocks k)) goto-line tail-call) k (lastIn blocks k) d)))
       by false false p q = rw (p, q) (omega arith)
 
-  flat-closing-few : (k d : ℕ) → bodyCount blocks k + length (pick (eqb (endingIn blocks k) 2) (line if-goto k (lastIn blocks k) d ∷ []) []) ≤ counts k
+  branch-few : (k d : ℕ) → bodyCount blocks k + length (branchLines blocks k d) ≤ counts k
   unfolding bodyCount
-  flat-closing-few k d = by (eqb (endingIn blocks k) 2) (eqb (endingIn blocks k) 3) refl
+  branch-few k d = by (endsInBranch blocks k) (endsInJmp blocks k) refl refl
     where
-      by : (b₂ b₃ : Bool) → eqb (endingIn blocks k) 2 ≡ b₂
-          → pick (b₂ || b₃) (counts k - 1) (counts k) + length (pick b₂ (line if-goto k (lastIn blocks k) d ∷ []) []) ≤ counts k
-      by true b₃ p = omega (arith, ends-some blocks k 1 p)
-      by false true p = omega arith
-      by false false p = omega arith
+      by : (b₂ b₃ : Bool) → endsInBranch blocks k ≡ b₂ → endsInJmp blocks k ≡ b₃ → bodyCount blocks k + length (branchLines blocks k d) ≤ counts k
+      by true b₃ p q = rw p (omega (arith, ends-some blocks k 1 p))
+      by false true p q = rw (p, q) (omega arith)
+      by false false p q = rw (p, q) (omega arith)
 
-  region-body-few : (k : ℕ) → endingIn blocks k ≡ 2 → bodyCount blocks k + 1 ≤ counts k
+  head-few : (k : ℕ) → endingIn blocks k ≡ 2 → bodyCount blocks k + 1 ≤ counts k
   unfolding bodyCount
-  region-body-few k e =
-      let p : eqb (endingIn blocks k) 2 ≡ true = eq-eqb (endingIn blocks k) 2 e in
+  head-few k e =
+      let p : endsInBranch blocks k ≡ true = eq-eqb (endingIn blocks k) 2 e in
       rw p (omega (arith, ends-some blocks k 1 p))
 
   plain-few : (from i to d : ℕ) → length (plainLines blocks edges shown B from i to d) ≤ 1 + counts i
@@ -130,7 +125,7 @@ module _ (blocks edges shown starts targets : List ℕ) (B : ℕ) where
         arith,
         label-few (ltb i k && labelWanted blocks k) k d,
         lines-few k (firstIn blocks k) (bodyCount blocks k) d,
-        flat-closing-few k d,
+        branch-few k d,
       ))
 
   flats-few : (i k n d : ℕ) → length (flatLines blocks shown i k n d) ≤ sumBelow (λ m. counts (k + m)) n + n
@@ -152,42 +147,51 @@ module _ (blocks edges shown starts targets : List ℕ) (B : ℕ) where
         lines-few j (firstIn blocks j) (counts j - 1) (d + 1),
       ))
 
-  -- ---- ranges
-  abbrev Few : Of
-  Few from i to d r cs = length r ≤ total i to + 2 * (to - i)
-
-  few-more : (g : Go) (h : ℕ → ℕ → List Context) (s : Shape) (from i to d : ℕ) → Within blocks i to s → Below Few g h i to
-      → length (step blocks edges shown starts targets B g true s from i to d) ≤ total i to + 2 * (to - i)
-  few-more g h (Loop j) from i to d w q =
-      simp length-append
-      (omega (
-        arith,
-        loop-few i j d (w .2),
-        q from (j + 1) to d (omega arith) (omega arith),
-        total-split i j to (omega arith) (omega arith),
-        total-split j (j + 1) to (omega arith) (omega arith),
-        total-one j,
-      ))
-  few-more g h (Region t) from i to d w q =
+  region-few : (from i to d : ℕ) (inner : List Line) → endingIn blocks i ≡ 2 → length (regionLines blocks edges shown B inner from i to d) ≤ counts i + 2 + length inner
+  region-few from i to d inner e =
       simp length-append
       (omega (
         arith,
         label-few (labelled blocks edges B from i to) i d,
         lines-few i (firstIn blocks i) (bodyCount blocks i) d,
-        region-body-few i (w .2),
-        q (i + 1) (i + 1) t (d + 1) (omega arith) (omega arith),
-        q from t to d (omega arith) (omega arith),
+        head-few i e,
+      ))
+
+  -- ---- ranges
+  tree-few : (t : Tree) (from i to d : ℕ) → Fits blocks edges t i to → length (treeLines blocks edges shown B t from i to d) ≤ total i to + 2 * (to - i)
+  unfolding treeLines
+  tree-few over from i to d f = zero-le
+  tree-few (plain r) from i to d f =
+      simp length-append
+      (omega (arith, plain-few from i to d, tree-few r from (i + 1) to d (f .1), total-split i (i + 1) to (omega arith) (omega arith), total-one i))
+  tree-few (region t a r) from i to d f =
+      let inner = treeLines blocks edges shown B a (i + 1) (i + 1) t (d + 1) in
+      rw (length-append (regionLines blocks edges shown B inner from i to d))
+      (omega (
+        arith,
+        region-few from i to d inner (f .2),
+        tree-few a (i + 1) (i + 1) t (d + 1) (f .4),
+        tree-few r from t to d (f .5),
         total-split i (i + 1) to (omega arith) (omega arith),
         total-split (i + 1) t to (omega arith) (omega arith),
         total-one i,
       ))
-  few-more g h Plain from i to d w q =
+  tree-few (loop j r) from i to d f =
       simp length-append
-      (omega (arith, plain-few from i to d, q from (i + 1) to d (omega arith) (omega arith), total-split i (i + 1) to (omega arith) (omega arith), total-one i))
+      (omega (
+        arith,
+        loop-few i j d (closes-some blocks edges i j (f .2)),
+        tree-few r from (j + 1) to d (f .3),
+        total-split i j to (omega arith) (omega arith),
+        total-split j (j + 1) to (omega arith) (omega arith),
+        total-one j,
+      ))
 
-  pub lines-are-few : (from to d : ℕ) → length (planOf blocks edges shown starts targets B from to d) ≤ instructionsFrom blocks edges shown starts targets B from to + 2 * (to - from)
-  lines-are-few from to d = range-all blocks edges shown starts targets B Few (λ f i t e h. zero-le) few-more from from to d
+module _ (blocks edges shown starts targets : List ℕ) (B : ℕ) where
+  pub lines-are-few : (from to d : ℕ) → length (planOf blocks edges shown starts targets B from to d) ≤ instructionsFrom blocks from to + 2 * (to - from)
+  unfolding rangeLines
+  lines-are-few from to d = tree-few blocks edges shown B (treeOf blocks edges starts targets B from to) from from to d (tree-fits blocks edges starts targets B from to)
 
   -- rows of two bytes a number: the number of lines fits four
   pub lines-fit : (from to d : ℕ) → ((k : ℕ) → getD blocks k 0 < 65536) → to < 65536 → length (planOf blocks edges shown starts targets B from to d) < 4294967296
-  lines-fit from to d h p = omega (arith, lines-are-few from to d, sum-bound (λ m. counts (from + m)) (to - from) (λ m. h (8 * (from + m) + 1)))
+  lines-fit from to d h p = omega (arith, lines-are-few from to d, sum-bound (λ m. countIn blocks (from + m)) (to - from) (λ m. h (8 * (from + m) + 1)))

@@ -1,0 +1,96 @@
+-- Lines that open and close no brace: what holds of no line, of each such line up to an indent, and of two runs if of both, holds of a
+-- block's lines. One walk serves every fact of that kind; each line is of its block's place, and of an instruction up to its block's end.
+use mathlib.Core.Bool.{Bool, _&&_, _||_}
+use mathlib.Core.List.{List, [], _∷_, _++_}
+use Prim.Native.Nat.{ℕ, zero, suc, _+_, _-_, _≤_, _<_, zero-le}
+use native.Mathlib.Nat.{le-refl}
+use native.Mathlib.Omega.{arith}
+use lib.Dec.{ltb}
+use Rattle.lists.specs.Choice.{pick}
+use Rattle.structure.specs.Graph.{firstIn, countIn, endsInBranch, endsInJmp, branchTo, isBlock, lastIn, isShown, labelWanted}
+use Rattle.structure.specs.Plan.{What, Line, line, labelIf, labelled, shownLines, bodyCount, bodyLines, goesNext, jumpLines, branchLines, closingLines, plainLines, flatBlock, flatLines}
+use Rattle.structure.specs.Plan.What.{label-line, do-line, open-line, if-goto, while-line, close-line, goto-line, tail-call, insn-line}
+use Rattle.structure.proofs.Within.{pick-both}
+
+-- a line that opens and closes no brace
+abbrev pub Braceless : What → Type 0
+Braceless label-line = Unit {0}
+Braceless if-goto = Unit {0}
+Braceless goto-line = Unit {0}
+Braceless tail-call = Unit {0}
+Braceless insn-line = Unit {0}
+Braceless do-line = ⊥
+Braceless open-line = ⊥
+Braceless while-line = ⊥
+Braceless close-line = ⊥
+
+-- where block k's instructions end
+abbrev pub endIn : List ℕ → ℕ → ℕ
+endIn blocks k = firstIn blocks k + countIn blocks k
+
+body-within : (blocks : List ℕ) (k : ℕ) → bodyCount blocks k ≤ countIn blocks k
+unfolding bodyCount
+body-within blocks k =
+    pick-both (λ (n : ℕ). n ≤ countIn blocks k) (endsInBranch blocks k || endsInJmp blocks k) _ _ (λ _. omega arith) (λ _. le-refl (countIn blocks k))
+
+module _ (blocks shown : List ℕ) (P : List Line → Type 0) (none : P []) (join : (xs ys : List Line) → P xs → P ys → P (xs ++ ys)) (d : ℕ) where
+  -- what is known of each line of block k
+  abbrev pub One : ℕ → Type 0
+  One k = (w : What) (i e : ℕ) → Braceless w → i ≤ endIn blocks k → e ≤ d → P (line w k i e ∷ [])
+
+  module _ (k : ℕ) (one : One k) where
+    pub labels-all : (b : Bool) → P (labelIf b k d)
+    labels-all b = pick-both P b _ _ (λ _. one label-line 0 (d - 1) tt zero-le (omega arith)) (λ _. none)
+
+    lines-all : (i n : ℕ) → i + n ≤ endIn blocks k → P (shownLines shown k i n d)
+    unfolding shownLines
+    lines-all i zero h = none
+    lines-all i (suc n) h =
+        pick-both P (isShown shown i) _ _
+        (λ _. join (line insn-line k i d ∷ []) (shownLines shown k (suc i) n d) (one insn-line i d tt (omega arith) (le-refl d)) (lines-all (suc i) n (omega arith)))
+        (λ _. lines-all (suc i) n (omega arith))
+
+    pub body-all : P (bodyLines blocks shown k d)
+    body-all = lines-all (firstIn blocks k) (bodyCount blocks k) (omega (arith, body-within blocks k))
+
+    -- the instructions before a loop's closing test
+    pub test-all : P (shownLines shown k (firstIn blocks k) (countIn blocks k - 1) d)
+    test-all = lines-all (firstIn blocks k) (countIn blocks k - 1) (omega arith)
+
+    last-one : (w : What) → Braceless w → P (line w k (lastIn blocks k) d ∷ [])
+    last-one w l = one w (lastIn blocks k) d l (omega arith) (le-refl d)
+
+    jump-all : (to : ℕ) → P (jumpLines blocks k to d)
+    jump-all to =
+        pick-both P (goesNext blocks k to) _ _ (λ _. none)
+        (λ _. last-one (pick (isBlock (branchTo blocks k)) goto-line tail-call)
+        (pick-both Braceless (isBlock (branchTo blocks k)) goto-line tail-call (λ _. tt) (λ _. tt)))
+
+    branch-all : P (branchLines blocks k d)
+    branch-all = pick-both P (endsInBranch blocks k) _ _ (λ _. last-one if-goto tt) (λ _. none)
+
+    closing-all : (to : ℕ) → P (closingLines blocks k to d)
+    unfolding closingLines
+    closing-all to =
+        pick-both P (endsInBranch blocks k) _ _ (λ _. last-one if-goto tt)
+        (λ _. pick-both P (endsInJmp blocks k) _ _ (λ _. jump-all to) (λ _. none))
+
+    flat-all : (i : ℕ) → P (flatBlock blocks shown i k d)
+    unfolding flatBlock
+    flat-all i =
+        join (labelIf (ltb i k && labelWanted blocks k) k d) _ (labels-all (ltb i k && labelWanted blocks k))
+        (join (bodyLines blocks shown k d) _ body-all branch-all)
+
+    pub plain-all : (edges : List ℕ) (B from to : ℕ) → P (plainLines blocks edges shown B from k to d)
+    unfolding plainLines
+    plain-all edges B from to =
+        join (labelIf (labelled blocks edges B from k to) k d) _ (labels-all (labelled blocks edges B from k to))
+        (join (bodyLines blocks shown k d) _ body-all (closing-all to))
+
+  -- n blocks of a do-body from k on
+  pub flats-all : (i k n : ℕ) → ((j : ℕ) → k ≤ j → j < k + n → One j) → P (flatLines blocks shown i k n d)
+  unfolding flatLines
+  flats-all i k zero one = none
+  flats-all i k (suc n) one =
+      join (flatBlock blocks shown i k d) _ (flat-all k (one k (le-refl k) (omega arith)) i)
+      (flats-all i (suc k) n (λ j a b. one j (omega arith) (omega arith)))
