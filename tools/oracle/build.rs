@@ -1,5 +1,4 @@
-//! Copies the emitter's items out of the Rust source, by name and unchanged, into OUT_DIR, writes
-//! mutants of them if asked to, and links the static libraries of the port that are there.
+//! Copies the emitter's items out of the Rust source, by name and unchanged, into OUT_DIR, and writes mutants of them if asked to.
 
 mod mutate;
 
@@ -43,15 +42,11 @@ const ITEMS: &[&str] = &[
 const FLAT_NAME: &str = "src--crates--paranoia-core--src--pseudo.rs.txt";
 const TREE_NAME: &str = "crates/paranoia-core/src/pseudo.rs";
 
-/// Static libraries of the port: the crate, and the cfg that is on if its archive is there.
-const PORTS: &[(&str, &str)] = &[("record", "port_record"), ("expressions", "port_expressions"), ("abi", "port_abi")];
-
 fn main() {
     println!("cargo:rerun-if-changed=build.rs");
     println!("cargo:rerun-if-changed=mutate.rs");
     let items = copy_items();
     write_mutants(&items);
-    link_ports();
 }
 
 fn copy_items() -> String {
@@ -227,22 +222,4 @@ fn find(s: &[u8], from: usize, what: &[u8]) -> Option<usize> {
 /// Only the derive lines that name serde go: no such crate is at hand.
 fn without_serde(item: &str) -> String {
     item.lines().filter(|l| !(l.starts_with("#[derive(") && l.contains("Serialize"))).map(|l| format!("{l}\n")).collect()
-}
-
-/// STATICLIB_DIR names the folder of the archives that `rt staticlib` writes.
-fn link_ports() {
-    println!("cargo:rerun-if-env-changed=STATICLIB_DIR");
-    for (_, cfg) in PORTS {
-        println!("cargo:rustc-check-cfg=cfg({cfg})");
-    }
-    let Some(dir) = env::var_os("STATICLIB_DIR").map(PathBuf::from) else { return };
-    for (name, cfg) in PORTS {
-        let archive = dir.join(format!("lib{name}.a"));
-        println!("cargo:rerun-if-changed={}", archive.display());
-        if archive.is_file() {
-            println!("cargo:rustc-cfg={cfg}");
-            println!("cargo:rustc-link-search=native={}", dir.display());
-            println!("cargo:rustc-link-lib=static={name}");
-        }
-    }
 }

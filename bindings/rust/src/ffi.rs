@@ -30,15 +30,18 @@ extern "C" {
     fn cakirotu_size(rec: *const u8, rec_len: usize, from: usize, to: usize, sizes: *mut u64, sizes_len: usize) -> u8;
 }
 
+/// What no call leaves: every call writes its sizes.
+const UNWRITTEN: [u64; 3] = [u64::MAX; 3];
+
 pub fn size(record: &[u8], blocks: Blocks) -> Result<Sizes, Refusal> {
-    let mut sizes = [0; 3];
+    let mut sizes = UNWRITTEN;
     // The function is total: it reads the record alone and stores into the sizes alone.
     let no = unsafe { cakirotu_size(record.as_ptr(), record.len(), blocks.from, blocks.to, sizes.as_mut_ptr(), sizes.len()) };
     answer(no, sizes)
 }
 
 pub fn list(record: &[u8], blocks: Blocks, l: &mut Lists<'_>) -> Result<Sizes, Refusal> {
-    let mut sizes = [0; 3];
+    let mut sizes = UNWRITTEN;
     // The function is total: it reads the record alone and stores nothing past the lists, which as `&mut` are all apart.
     let no = unsafe {
         cakirotu_list(
@@ -65,11 +68,14 @@ pub fn list(record: &[u8], blocks: Blocks, l: &mut Lists<'_>) -> Result<Sizes, R
     answer(no, sizes)
 }
 
-/// Panics on a number that the library does not answer: then another one is linked.
+/// Panics on an answer that the library does not give: then another one is linked.
 fn answer(no: u8, sizes: [u64; 3]) -> Result<Sizes, Refusal> {
-    if no != 0 {
-        return Err(Refusal::from_number(no).unwrap_or_else(|| panic!("libabi.a answers {no}")));
+    if no == 0 {
+        let [text, tokens, lines] = sizes.map(|n| n as usize);
+        return Ok(Sizes { text, tokens, lines });
     }
-    let [text, tokens, lines] = sizes.map(|n| n as usize);
-    Ok(Sizes { text, tokens, lines })
+    match Refusal::from_number(no) {
+        Some(refusal) if sizes == [0; 3] => Err(refusal),
+        _ => panic!("the library answers {no} with the sizes {sizes:?}"),
+    }
 }

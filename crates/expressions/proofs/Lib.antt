@@ -2,4 +2,3 @@ pub mod Search
 pub mod Written
 pub mod Relations
 pub mod Commas
-pub mod Exports

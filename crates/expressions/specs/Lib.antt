@@ -2,4 +2,3 @@ pub mod Condition
 pub mod Arguments
 pub mod Turns
 pub mod Bounds
-pub mod Export

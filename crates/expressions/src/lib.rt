@@ -1,4 +1,3 @@
-// What stands inside a line: conditions, the arguments of a call, and one of them for callers in other languages.
+// What stands inside a line: conditions and the arguments of a call.
 pub mod arguments;
 pub mod condition;
-pub mod export;

@@ -3,21 +3,20 @@
 use mathlib.Core.Path.{_≡_, refl, sym, ap, _∙_}
 use mathlib.Core.Bool.{Bool, true, false}
 use mathlib.Core.List.{List, [], _∷_, map}
-use Prim.Native.Nat.{ℕ, zero, suc, _*_, _^_, _≤_, _<_}
+use Prim.Native.Nat.{ℕ, zero, suc, _^_, _≤_, _<_}
 use native.Mathlib.Nat.{not-suc-le-zero}
 use native.Mathlib.Omega.{arith}
 use lib.IntN.{natAbs}
-use lib.ListN.{length, getD, take, length-map}
+use lib.ListN.{length, take, length-map}
 use Rattle.lists.specs.Bytes.{u32At}
 use Rattle.lists.specs.Put.{put}
 use Rattle.record.specs.declared.header.Header.{Header}
 use Rattle.record.specs.declared.asked.Asked.{Asked}
 use Rattle.record.specs.declared.asked.Asked.the-variants as case
 use Rattle.record.specs.Header.{headerOf, limitsOk}
-use Rattle.record.specs.Asked.{answerOf, firstNo, orElse}
-use Rattle.structure.specs.Plan.{Line, codeOf}
+use Rattle.record.specs.Asked.{answerOf, firstNo}
+use Rattle.structure.specs.Plan.{codeOf}
 use Rattle.structure.specs.Graph.{firstIn}
-use Rattle.structure.specs.Reads.{indentIn}
 use Rattle.structure.specs.Demand.{Shallow}
 use Rattle.structure.specs.Stored.{Stored}
 use Rattle.operand.specs.Accepted.{accepted-rising}

@@ -1,6 +1,6 @@
 -- Demand 3, of the listing of a range: it holds of the lists that the call fills, for every record and range.
 -- The plan has it (`record-demand3`); a line that stays has its instruction's address, and every line has a mark.
-use Prim.Native.Nat.{ℕ, _+_, _-_, _*_, _%_, _≤_, _<_}
+use Prim.Native.Nat.{ℕ, _+_, _-_, _*_, _≤_}
 use mathlib.Core.List.{List, [], _∷_, map}
 use mathlib.Core.Path.{_≡_, refl, ap, _∙_}
 use native.Mathlib.Omega.{arith}

@@ -158,14 +158,3 @@ pub fn record(bytes: &[u8], from: usize, to: usize) -> Asked
     }
     Asked::Yes(h)
 }
-
-// The first question that gets a no, or 0, for callers in other languages.
-#[no_mangle]
-pub extern "C" fn record_first_no(bytes: &[u8], from: usize, to: usize) -> u8
-    ensures { λ r. ⌜ r ≡ firstNo (now (bytes .entry)) from to ⌝ }
-{
-    match record(bytes, from, to) {
-        Asked::Yes(_) => 0,
-        Asked::No(n) => n,
-    }
-}

@@ -6,7 +6,6 @@ use lists::reads::u64_at;
 use lists::reads::within;
 use pseudo::call::Answer;
 use pseudo::call::list;
-use pseudo::rooms::Sizes;
 ghost use mathlib.Core.Path.{_≡_};
 ghost use Prim.Native.Nat.{_<_};
 ghost use Rattle.replay.specs.Sum.{turn, sumFrom, wideFrom};

@@ -1,10 +1,12 @@
 //! The port's speed against the Rust's, on the same records, in one run.
 
+use std::hint::black_box;
 use std::time::{Duration, Instant};
 
+use crate::lists::Lists;
 use crate::record::Record;
 use crate::rng::Rng;
-use crate::{abi, emitter, gen};
+use crate::{emitter, gen, port};
 
 /// Records of one kind.
 struct Set {
@@ -54,7 +56,7 @@ pub fn once(name: &str, rust: bool) -> Result<bool, String> {
         if rust {
             emitter::time(record, 1);
         } else {
-            abi::time(&record.to_bytes(), record.blocks.len(), 1);
+            port_time(&record.to_bytes(), record.blocks.len(), 1);
         }
     }
     println!("instructions {instructions}");
@@ -80,7 +82,7 @@ fn measure(record: &Record, budget: Duration) -> Times {
     let (mut rust, mut port) = (f64::MAX, f64::MAX);
     for _ in 0..TURNS {
         rust = rust.min(best(budget / TURNS, |times| emitter::time(record, times)));
-        port = port.min(best(budget / TURNS, |times| abi::time(&bytes, record.blocks.len(), times)));
+        port = port.min(best(budget / TURNS, |times| port_time(&bytes, record.blocks.len(), times)));
     }
     Times { rust: rust / n, port: port / n }
 }
@@ -99,13 +101,43 @@ fn best(budget: Duration, time: impl Fn(usize) -> Duration) -> f64 {
     least
 }
 
+/// How long so many calls of the port for the whole range take, on lists with room to spare.
+fn port_time(bytes: &[u8], blocks: usize, times: usize) -> Duration {
+    let mut lists = room(1 << 20);
+    let mut lent = port::slices(&mut lists);
+    let began = Instant::now();
+    for _ in 0..times {
+        let sizes = cakirotu::list_into(black_box(bytes), 0..blocks, &mut lent);
+        black_box(sizes.expect("a record of the benchmark is listed"));
+    }
+    began.elapsed()
+}
+
+/// Lists with room to spare for n tokens.
+fn room(n: usize) -> Lists {
+    Lists {
+        text: vec![0; 16 * n],
+        ends: vec![0; n],
+        kinds: vec![0; n],
+        addresses: vec![0; 900],
+        marks: vec![0; 900],
+        line_ends: vec![0; 900],
+    }
+}
+
+/// How many bytes the six lists of the whole range's listing have.
+fn listed(bytes: &[u8], blocks: usize) -> usize {
+    let sizes = cakirotu::size(bytes, 0..blocks).expect("a record of the benchmark is listed");
+    sizes.text + sizes.tokens * (4 + 1) + sizes.lines * (8 + 2 + 4)
+}
+
 /// Bytes of the records and of their listings' lists, an instruction.
 fn moved(set: &Set) -> (f64, f64) {
     let (mut read, mut written, mut instructions) = (0, 0, 0);
     for record in &set.records {
         let bytes = record.to_bytes();
         read += bytes.len();
-        written += abi::written(&bytes, record.blocks.len());
+        written += listed(&bytes, record.blocks.len());
         instructions += record.layout().i;
     }
     (read as f64 / instructions as f64, written as f64 / instructions as f64)

@@ -8,7 +8,9 @@ use crate::demand3;
 use crate::gen;
 use crate::lines::Forms;
 use crate::listing;
+use crate::lists::Lists;
 use crate::pieces::{self, Piece};
+use crate::port::{self, Port};
 use crate::questions;
 use crate::record::{Layout, Record, HEADER};
 use crate::rng::Rng;
@@ -16,7 +18,7 @@ use crate::rng::Rng;
 /// A comparison takes a seed and a number of cases, and tells whether nothing differs.
 pub type Comparison = fn(u64, usize) -> Result<bool, String>;
 
-/// The comparisons by name. `tools/compare` has the same names, with the library that each needs.
+/// The comparisons by name. `tools/compare` has the same names, with the number of cases.
 pub const COMPARISONS: &[(&str, Comparison)] =
     &[("questions", questions), ("pieces", pieces), ("lines", lines), ("listing", whole), ("sanity", sanity)];
 
@@ -159,11 +161,11 @@ fn each_call(seed: u64, count: usize, mut each: impl FnMut(usize, &Call) -> Resu
 /// Questions 1 to 11: the port against `questions.rs`, on all small changes of one record and on
 /// so many generated calls.
 pub fn questions(seed: u64, count: usize) -> Result<bool, String> {
-    let port = port::first_no()?;
+    let port = port::linked()?;
     let mut tally = Tally::new("questions");
     let mut ask = |call: &Call| {
         let ours = questions::first_no(&call.bytes, call.from, call.to);
-        let theirs = port(&call.bytes, call.from, call.to);
+        let theirs = (port.first_no)(&call.bytes, call.from, call.to);
         tally.compared += 1;
         if ours != theirs {
             tally.differs(call, || format!("document 01 says {}, the port {}", answer(ours), answer(theirs)))?;
@@ -183,7 +185,7 @@ pub fn questions(seed: u64, count: usize) -> Result<bool, String> {
 /// Operands, memory operands and conditions: the port against the Rust, every piece of every instruction of generated records
 /// until so many instructions were seen.
 pub fn pieces(seed: u64, count: usize) -> Result<bool, String> {
-    let port = port::piece_tokens()?;
+    let port = port::linked()?;
     let mut rng = Rng::new(seed);
     let mut tally = Tally::new("pieces");
     let mut forms = BTreeSet::new();
@@ -193,7 +195,7 @@ pub fn pieces(seed: u64, count: usize) -> Result<bool, String> {
         let record = Record::parse(&call.bytes);
         instructions += record.insns().count();
         for Piece { first, at, what, tokens } in pieces::all(&record) {
-            let theirs = port(&call.bytes, first, at, what);
+            let theirs = (port.piece_tokens)(&call.bytes, first, at, what);
             tally.compared += 1;
             forms.insert(tokens.form());
             if tokens != theirs {
@@ -208,7 +210,7 @@ pub fn pieces(seed: u64, count: usize) -> Result<bool, String> {
 /// Instruction lines of records of one block: every list of the port against the Rust's `emit_insns`, until so many
 /// instructions were seen.
 pub fn lines(seed: u64, count: usize) -> Result<bool, String> {
-    let port = port::list()?;
+    let port = port::linked()?;
     let mut rng = Rng::new(seed);
     let mut tally = Tally::new("lines");
     let mut forms = Forms::default();
@@ -219,7 +221,7 @@ pub fn lines(seed: u64, count: usize) -> Result<bool, String> {
         forms.add(&record, &ours);
         tally.compared += 1;
         let (x, k, l) = (ours.text.len(), ours.token_ends.len(), ours.lines());
-        if let Err(why) = accepted(&call, port, Lists::lent(x, [k, k], [l, l, l]), &ours) {
+        if let Err(why) = accepted(&call, &port, Lists::lent(x, [k, k], [l, l, l]), &ours) {
             tally.differs(&call, || why)?;
         }
     }
@@ -229,14 +231,14 @@ pub fn lines(seed: u64, count: usize) -> Result<bool, String> {
 
 /// Whole listings: every list of the port against the Rust's, demand 3 of what both list, and refusals of lists one too short.
 pub fn whole(seed: u64, count: usize) -> Result<bool, String> {
-    let port = port::list()?;
+    let port = port::linked()?;
     let mut rng = Rng::new(seed);
     let mut tally = Tally::new("listing");
     let mut seen = Seen::default();
     for n in 0..count {
         let call = listing_call(&mut rng, n);
         tally.compared += 1;
-        if let Err(why) = lists_alike(&call, port, n, &mut seen) {
+        if let Err(why) = lists_alike(&call, &port, n, &mut seen) {
             tally.differs(&call, || why)?;
         }
     }
@@ -254,51 +256,7 @@ pub fn listing_call(rng: &mut Rng, n: usize) -> Call {
     }
 }
 
-/// What a call of the port left: the answer, the sizes, and the six lists whole.
-pub struct Left {
-    pub no: u8,
-    pub sizes: [usize; 3],
-    pub lists: Lists,
-}
-
-/// Six lists, as lent to the port.
-#[derive(Clone, PartialEq, Eq)]
-pub struct Lists {
-    pub text: Vec<u8>,
-    pub ends: Vec<u32>,
-    pub kinds: Vec<u8>,
-    pub addresses: Vec<u64>,
-    pub marks: Vec<u16>,
-    pub line_ends: Vec<u32>,
-}
-
-impl Lists {
-    /// Lists of these lengths, filled with something that no listing writes throughout.
-    pub fn lent(text: usize, tokens: [usize; 2], lines: [usize; 3]) -> Lists {
-        Lists {
-            text: vec![0xee; text],
-            ends: vec![0xeeee_eeee; tokens[0]],
-            kinds: vec![0xee; tokens[1]],
-            addresses: vec![0xeeee_eeee_eeee_eeee; lines[0]],
-            marks: vec![0xeeee; lines[1]],
-            line_ends: vec![0xeeee_eeee; lines[2]],
-        }
-    }
-
-    /// The lists as an accepted call leaves them: the Rust's, and what lies past it as it was lent.
-    pub fn filled(mut self, ours: &listing::Listing) -> Lists {
-        let (x, k, l) = (ours.text.len(), ours.token_ends.len(), ours.lines());
-        self.text[..x].copy_from_slice(&ours.text);
-        self.ends[..k].copy_from_slice(&ours.token_ends);
-        self.kinds[..k].copy_from_slice(&ours.token_kinds);
-        self.addresses[..l].copy_from_slice(&ours.line_addresses);
-        self.marks[..l].copy_from_slice(&ours.line_marks);
-        self.line_ends[..l].copy_from_slice(&ours.line_ends);
-        self
-    }
-}
-
-fn lists_alike(call: &Call, port: port::List, n: usize, seen: &mut Seen) -> Result<(), String> {
+fn lists_alike(call: &Call, port: &Port, n: usize, seen: &mut Seen) -> Result<(), String> {
     let Call { bytes, from, to } = call;
     let no = questions::first_no(bytes, *from, *to);
     if no != 0 {
@@ -325,8 +283,8 @@ fn lists_alike(call: &Call, port: port::List, n: usize, seen: &mut Seen) -> Resu
 }
 
 /// A refusal: the number, no sizes, and every list as it was lent.
-fn refused(call: &Call, port: port::List, lent: Lists, no: u8) -> Result<(), String> {
-    let left = port(&call.bytes, call.from, call.to, lent.clone());
+fn refused(call: &Call, port: &Port, lent: Lists, no: u8) -> Result<(), String> {
+    let left = (port.list)(&call.bytes, call.from, call.to, lent.clone());
     if left.no != no || left.sizes != [0; 3] {
         return Err(format!("expected no {no}, the port says {} with sizes {:?}", left.no, left.sizes));
     }
@@ -337,8 +295,8 @@ fn refused(call: &Call, port: port::List, lent: Lists, no: u8) -> Result<(), Str
 }
 
 /// A listing: the sizes, and the lists as an accepted call leaves them.
-fn accepted(call: &Call, port: port::List, lent: Lists, ours: &listing::Listing) -> Result<(), String> {
-    let left = port(&call.bytes, call.from, call.to, lent.clone());
+fn accepted(call: &Call, port: &Port, lent: Lists, ours: &listing::Listing) -> Result<(), String> {
+    let left = (port.list)(&call.bytes, call.from, call.to, lent.clone());
     let sizes = [ours.text.len(), ours.token_ends.len(), ours.lines()];
     if left.no != 0 || left.sizes != sizes {
         return Err(format!("the Rust lists {sizes:?}, the port says {} with sizes {:?}", left.no, left.sizes));
@@ -435,94 +393,5 @@ impl Seen {
             "  at most: {} lines, {} tokens, {} text bytes in a listing, indent {}",
             self.most_lines, self.most_tokens, self.longest, self.deepest
         );
-    }
-}
-
-/// The port's functions, as far as their archives are linked.
-mod port {
-    use super::{Left, Lists};
-    use crate::pieces::Tokens;
-
-    pub type FirstNo = fn(&[u8], usize, usize) -> u8;
-
-    #[cfg(port_record)]
-    pub fn first_no() -> Result<FirstNo, String> {
-        extern "C" {
-            fn record_first_no(bytes: *const u8, len: usize, from: usize, to: usize) -> u8;
-        }
-        // The function is total: it reads only the bytes lent.
-        Ok(|bytes, from, to| unsafe { record_first_no(bytes.as_ptr(), bytes.len(), from, to) })
-    }
-
-    #[cfg(not(port_record))]
-    pub fn first_no() -> Result<FirstNo, String> {
-        Err(missing("record"))
-    }
-
-    pub type PieceTokens = fn(&[u8], u16, u16, u8) -> Tokens;
-
-    #[cfg(port_expressions)]
-    pub fn piece_tokens() -> Result<PieceTokens, String> {
-        extern "C" {
-            fn piece_tokens(
-                rec: *const u8,
-                len: usize,
-                first: u16,
-                instruction: u16,
-                what: u8,
-                text: *mut u8,
-                text_len: usize,
-                ends: *mut u32,
-                ends_len: usize,
-                kinds: *mut u8,
-                kinds_len: usize,
-            ) -> u64;
-        }
-        Ok(|bytes, first, instruction, what| {
-            let mut tokens = Tokens { text: vec![0; 2048], ends: vec![0; 64], kinds: vec![0; 64] };
-            let Tokens { text, ends, kinds } = &mut tokens;
-            // The function is total: it stores nothing past the lists lent.
-            let sizes = unsafe {
-                piece_tokens(
-                    bytes.as_ptr(),
-                    bytes.len(),
-                    first,
-                    instruction,
-                    what,
-                    text.as_mut_ptr(),
-                    text.len(),
-                    ends.as_mut_ptr(),
-                    ends.len(),
-                    kinds.as_mut_ptr(),
-                    kinds.len(),
-                )
-            };
-            tokens.text.truncate((sizes >> 32) as usize);
-            tokens.ends.truncate(sizes as u32 as usize);
-            tokens.kinds.truncate(sizes as u32 as usize);
-            tokens
-        })
-    }
-
-    #[cfg(not(port_expressions))]
-    pub fn piece_tokens() -> Result<PieceTokens, String> {
-        Err(missing("expressions"))
-    }
-
-    pub type List = fn(&[u8], usize, usize, Lists) -> Left;
-
-    #[cfg(port_abi)]
-    pub fn list() -> Result<List, String> {
-        Ok(crate::abi::list)
-    }
-
-    #[cfg(not(port_abi))]
-    pub fn list() -> Result<List, String> {
-        Err(missing("abi"))
-    }
-
-    #[allow(dead_code)]
-    fn missing(name: &str) -> String {
-        format!("lib{name}.a is not linked: tools/compare makes it and sets STATICLIB_DIR")
     }
 }

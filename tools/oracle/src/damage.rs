@@ -270,9 +270,14 @@ fn instructions(rng: &mut Rng, l: &Layout, call: &mut Call) {
         let low = no_register(rng) as usize;
         let frame = rng.pick(&[low, low, 0x100, 0x100 + 80, 0xff50, 0x5000]);
         put_u16(call, 14, frame);
-        return;
+    } else {
+        let at = l.body(end_or_any(rng, l.i));
+        in_body(rng, call, at);
     }
-    let body = l.body(end_or_any(rng, l.i));
+}
+
+/// A wrong field of the body that begins at `body`.
+fn in_body(rng: &mut Rng, call: &mut Call, body: usize) {
     let slot = body + 18 + 10 * rng.below(5);
     match rng.below(11) {
         0 => {

@@ -7,20 +7,22 @@ pub mod demand3;
 pub mod gen;
 pub mod lines;
 pub mod listing;
+pub mod lists;
 #[cfg(mutants)]
 pub mod mutants;
 pub mod pieces;
+pub mod port;
 pub mod questions;
 pub mod record;
 pub mod replay;
 pub mod rng;
 
-#[cfg(port_abi)]
-mod abi;
-#[cfg(port_abi)]
+#[cfg(feature = "abi")]
 pub mod bench;
 mod binary;
 mod emitter;
+#[cfg(feature = "comparison")]
+mod exports;
 mod iced;
 mod model;
 mod protos;

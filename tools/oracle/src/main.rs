@@ -28,11 +28,11 @@ fn main() -> ExitCode {
         ["replay", count, seed] => number(count).and_then(|n| number(seed).and_then(|s| write(&replay::corpus(n, s as u64)?))),
         #[cfg(mutants)]
         ["witnesses", count] => number(count).and_then(witnesses),
-        #[cfg(port_abi)]
+        #[cfg(feature = "abi")]
         ["bench"] => oracle::bench::run(),
-        #[cfg(port_abi)]
+        #[cfg(feature = "abi")]
         ["bench", set, "rust"] => oracle::bench::once(set, true),
-        #[cfg(port_abi)]
+        #[cfg(feature = "abi")]
         ["bench", set, "port"] => oracle::bench::once(set, false),
         [what, seed, count] => compare(what, seed, count),
         _ => Err(USAGE.to_string()),

@@ -16,10 +16,10 @@
 //! for each number x in turn, h becomes (1000003 h + x) mod 4294967311; a u64 counts as two numbers, its low 32 bits first.
 //! Nothing reaches 2^53. No record has more than 65,536 bytes, and no list is longer than the program `listing` lends it.
 
-use crate::compare::Lists;
 use crate::damage::{self, Call};
 use crate::gen;
 use crate::listing::{self, Listing};
+use crate::lists::Lists;
 use crate::questions;
 use crate::record::{self, Layout, Record};
 use crate::rng::Rng;

@@ -304,7 +304,7 @@ fn corpus_is_right() {
         assert_eq!(no, if case.no < 12 { case.no } else { 0 });
         let [x, a, b, c, d, e] = case.lent;
         assert!(case.record.len() <= 65_536 && x <= 65_536 && a.max(b) <= 16_384 && c.max(d).max(e) <= 900);
-        let mut lists = crate::compare::Lists::lent(x, [a, b], [c, d, e]);
+        let mut lists = crate::lists::Lists::lent(x, [a, b], [c, d, e]);
         if case.no == 0 {
             let ours = list(&case.record, from, to).unwrap();
             assert_eq!(case.sizes, [ours.text.len(), ours.token_ends.len(), ours.lines()]);
@@ -315,13 +315,13 @@ fn corpus_is_right() {
     assert!(seen.iter().all(|n| *n > 0));
 }
 
-#[cfg(port_abi)]
+#[cfg(feature = "abi")]
 #[test]
 fn port_replays_the_corpus() {
     for case in stored_cases() {
         let [x, a, b, c, d, e] = case.lent;
-        let lists = crate::compare::Lists::lent(x, [a, b], [c, d, e]);
-        let left = crate::abi::list(&case.record, case.range[0], case.range[1], lists);
+        let lists = crate::lists::Lists::lent(x, [a, b], [c, d, e]);
+        let left = crate::port::list(&case.record, case.range[0], case.range[1], lists);
         assert_eq!((left.no, left.sizes, crate::replay::sums(&left.lists)), (case.no, case.sizes, case.sums));
     }
 }

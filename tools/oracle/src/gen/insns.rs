@@ -59,35 +59,42 @@ pub fn recipe(rng: &mut Rng, world: &World, out: &mut Vec<Insn>) {
             }
             out.push(call(rng, world));
         }
+        which => out.push(single(rng, world, which)),
+    }
+}
+
+/// One instruction, by a number from 32 to 99.
+fn single(rng: &mut Rng, world: &World, which: usize) -> Insn {
+    match which {
         32..=49 => {
             let how = rng.range(6, 15) as u8;
-            out.push(two(rng, world, how, 0));
+            two(rng, world, how, 0)
         }
-        50..=55 => out.push(noise(rng, world)),
-        56..=60 => out.push(constant(rng, world)),
-        61..=64 => out.push(xor_self(rng, world)),
+        50..=55 => noise(rng, world),
+        56..=60 => constant(rng, world),
+        61..=64 => xor_self(rng, world),
         65..=68 => {
             let count = rng.range(0, 5) as u8;
-            out.push(Insn { count, ..two(rng, world, m::IMUL, 0) });
+            Insn { count, ..two(rng, world, m::IMUL, 0) }
         }
         69..=72 => {
             let how = rng.pick(&[m::XCHG, m::CMPXCHG]);
-            out.push(two(rng, world, how, 0));
+            two(rng, world, how, 0)
         }
         73..=77 => {
             let how = rng.pick(&[m::MOVZX, m::MOVSX, m::MOVSXD, m::LEA]);
-            out.push(two(rng, world, how, 0));
+            two(rng, world, how, 0)
         }
         78..=80 => {
             let how = rng.pick(&[m::JMP, m::CALL]);
-            out.push(indirect(rng, world, how));
+            indirect(rng, world, how)
         }
         81..=84 => {
             let how = rng.range(16, 19) as u8;
-            out.push(one(rng, world, how));
+            one(rng, world, how)
         }
-        85..=88 => out.push(Insn { mnemonic: rng.range(30, 37) as u8, ..memory(rng, world) }),
-        _ => out.push(any_insn(rng, world)),
+        85..=88 => Insn { mnemonic: rng.range(30, 37) as u8, ..memory(rng, world) },
+        _ => any_insn(rng, world),
     }
 }
 

@@ -1,9 +1,9 @@
--- `export::is_listed` meets its contract.
+-- `pieces::is_listed` meets its contract.
 -- The header is the record's.
-use Rattle.expressions.specs.Export.{isListed}
+use Rattle.comparison.specs.Pieces.{isListed}
 use borrow.Author.Needs.{needs}
-use Rattle.expressions.proofs.export.is_listed.Statement.{statement}
-use Rattle.expressions.proofs.export.is_listed.Tie as tie
+use Rattle.comparison.proofs.pieces.is_listed.Statement.{statement}
+use Rattle.comparison.proofs.pieces.is_listed.Tie as tie
 
 cast-record-first-no : tie.Need-cast-record-first-no
 cast-record-first-no c = search needs

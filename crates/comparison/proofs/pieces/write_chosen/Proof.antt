@@ -1,10 +1,10 @@
--- `export::write_chosen` meets its contract.
+-- `pieces::write_chosen` meets its contract.
 -- The pen is the first one.
-use Rattle.expressions.proofs.Exports.{from-start}
-use Rattle.expressions.specs.Export.{chosenTokens}
+use Rattle.comparison.proofs.PieceLaws.{from-start}
+use Rattle.comparison.specs.Pieces.{chosenTokens}
 use borrow.Author.Needs.{needs}
-use Rattle.expressions.proofs.export.write_chosen.Statement.{statement}
-use Rattle.expressions.proofs.export.write_chosen.Tie as tie
+use Rattle.comparison.proofs.pieces.write_chosen.Statement.{statement}
+use Rattle.comparison.proofs.pieces.write_chosen.Tie as tie
 
 word-table-requires : tie.Need-word-table-requires
 word-table-requires c κs = search needs

@@ -1,4 +1,4 @@
--- What the function for callers in other languages answers and leaves in the lent lists.
+-- What `piece_tokens` answers and leaves in the lent lists.
 use mathlib.Core.Bool.{Bool, _&&_}
 use mathlib.Core.List.{List}
 use Prim.Native.Nat.{ℕ, _+_, _-_, _*_}

@@ -1,7 +1,7 @@
--- What the exported function leaves is what its definition says.
+-- What `piece_tokens` answers and leaves is what its definition says.
 -- By what is asked for, and by whether the record and the instruction are accepted.
-use mathlib.Core.Path.{_≡_, refl, sym, ap, _∙_}
-use mathlib.Core.Bool.{Bool, true, false, _&&_}
+use mathlib.Core.Path.{_≡_, sym, ap, _∙_}
+use mathlib.Core.Bool.{Bool, true, false}
 use mathlib.Core.List.{List}
 use Prim.Native.Nat.{ℕ, _+_, _-_, _*_, _≤_, _<_}
 use borrow.Author.Tests.{le-leb, lt-leb, lt-ltb, le-ltb, eqb-true}
@@ -16,8 +16,8 @@ use Rattle.operand.specs.Accepted.{accepted-rising}
 use Rattle.operand.specs.Lent.{Rising}
 use Rattle.operand.specs.Memory.{memTokens}
 use Rattle.operand.specs.Operand.{opTokens}
 use Rattle.expressions.specs.Condition.{bodyOf, conditionTokens}
-use Rattle.expressions.specs.Export.{Answer, answer, answerOf, chosenTokens, isListed, exported}
+use Rattle.comparison.specs.Pieces.{Answer, answer, answerOf, chosenTokens, isListed, exported}
 
 module _ (S S′ : Sheet) (h : Header) (s : List ℕ) (first i what : ℕ) where
   pub chosen-condition : 16 ≤ what → S′ ≡ pushes S (conditionTokens h s first i (what - 16)) → S′ ≡ pushes S (chosenTokens h s first i what)

@@ -1,9 +1,9 @@
-// One piece of a line of a record, for callers in other languages: the comparison with the Rust.
-use crate::condition::body_of;
-use crate::condition::condition;
+// One piece of a line of a record: an operand, the memory operand or a condition.
+use crate::questions::record_first_no;
+use expressions::condition::body_of;
+use expressions::condition::condition;
 use operand::memory::mem;
 use operand::operand::op;
-use record::asked::record_first_no;
 use record::header::Header;
 use record::header::read_header;
 use tokens::pen::Pen;
@@ -16,7 +16,7 @@ ghost use Prim.Native.Nat.{_+_, _*_};
 ghost use Rattle.tokens.specs.Sheet.{sheet, ahead, firstPen, pushes};
 ghost use Rattle.record.specs.Header.{headerOf};
 ghost use Rattle.operand.specs.Lent.{Rising, Lent};
-ghost use Rattle.expressions.specs.Export.{answer, chosenTokens, isListed, exported};
+ghost use Rattle.comparison.specs.Pieces.{answer, chosenTokens, isListed, exported};
 
 // What is asked for: an operand, the memory operand read or as an address, or a condition.
 fn push_chosen(

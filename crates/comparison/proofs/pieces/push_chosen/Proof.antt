@@ -1,9 +1,9 @@
--- `export::push_chosen` meets its contract.
+-- `pieces::push_chosen` meets its contract.
 -- By what is asked for.
-use Rattle.expressions.proofs.Exports.{chosen-condition, chosen-operand, chosen-memory}
+use Rattle.comparison.proofs.PieceLaws.{chosen-condition, chosen-operand, chosen-memory}
 use borrow.Author.Needs.{needs}
-use Rattle.expressions.proofs.export.push_chosen.Statement.{statement}
-use Rattle.expressions.proofs.export.push_chosen.Tie as tie
+use Rattle.comparison.proofs.pieces.push_chosen.Statement.{statement}
+use Rattle.comparison.proofs.pieces.push_chosen.Tie as tie
 
 condition-requires : tie.Need-condition-requires
 condition-requires c κs = search needs

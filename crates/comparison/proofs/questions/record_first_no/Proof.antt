@@ -1,12 +1,10 @@
--- `record_first_no` meets its contract.
+-- `questions::record_first_no` meets its contract.
 -- The answer's number is that of its case.
-use mathlib.Core.Path.{_≡_, sym, ap, _∙_}
+use mathlib.Core.Path.{sym, ap, _∙_}
+use Rattle.comparison.proofs.AnswerNumber.{numberOf, number-is}
 use borrow.Author.Needs.{needs}
-use Rattle.record.specs.Asked.{numberOf}
-use Rattle.record.proofs.Stages.{number-is}
-use borrow.Author.Needs.{needs}
-use Rattle.record.proofs.asked.record_first_no.Statement.{statement}
-use Rattle.record.proofs.asked.record_first_no.Tie as tie
+use Rattle.comparison.proofs.questions.record_first_no.Statement.{statement}
+use Rattle.comparison.proofs.questions.record_first_no.Tie as tie
 
 record-requires : tie.Need-record-requires
 record-requires c κs = search needs

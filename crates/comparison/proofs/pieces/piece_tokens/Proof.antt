@@ -1,9 +1,9 @@
--- `export::piece_tokens` meets its contract.
+-- `pieces::piece_tokens` meets its contract.
 -- By whether the record and the instruction are accepted.
-use Rattle.expressions.proofs.Exports.{listed-rising, written, refused}
+use Rattle.comparison.proofs.PieceLaws.{listed-rising, written, refused}
 use borrow.Author.Needs.{needs}
-use Rattle.expressions.proofs.export.piece_tokens.Statement.{statement}
-use Rattle.expressions.proofs.export.piece_tokens.Tie as tie
+use Rattle.comparison.proofs.pieces.piece_tokens.Statement.{statement}
+use Rattle.comparison.proofs.pieces.piece_tokens.Tie as tie
 
 read-header-requires : tie.Need-read-header-requires
 read-header-requires c κs = search needs

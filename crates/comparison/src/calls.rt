@@ -1,0 +1,43 @@
+// The product's functions under their own names: an archive has the exports of its own crate alone.
+use abi::export::cakirotu_list as list;
+use abi::export::cakirotu_size as size;
+ghost use Rattle.abi.specs.Exported.{Exported, Sized};
+
+#[no_mangle]
+pub extern "C" fn cakirotu_list(
+    rec: &[u8],
+    from: usize,
+    to: usize,
+    text: &mut [u8],
+    ends: &mut [u32],
+    kinds: &mut [u8],
+    addresses: &mut [u64],
+    marks: &mut [u16],
+    lines: &mut [u32],
+    sizes: &mut [u64],
+) -> u8
+    ensures { λ r. ⌜ Exported (now (rec .entry)) from to
+        (now (text .entry)) (now (text .exit)) (now (ends .entry)) (now (ends .exit)) (now (kinds .entry)) (now (kinds .exit))
+        (now (addresses .entry)) (now (addresses .exit)) (now (marks .entry)) (now (marks .exit)) (now (lines .entry)) (now (lines .exit))
+        (now (sizes .entry)) (now (sizes .exit)) r ⌝ }
+{
+    list(
+        rec,
+        from,
+        to,
+        text,
+        ends,
+        kinds,
+        addresses,
+        marks,
+        lines,
+        sizes,
+    )
+}
+
+#[no_mangle]
+pub extern "C" fn cakirotu_size(rec: &[u8], from: usize, to: usize, sizes: &mut [u64]) -> u8
+    ensures { λ r. ⌜ Sized (now (rec .entry)) from to (now (sizes .entry)) (now (sizes .exit)) r ⌝ }
+{
+    size(rec, from, to, sizes)
+}

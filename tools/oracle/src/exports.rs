@@ -1,0 +1,53 @@
+//! What the port's library exports for the comparison alone. It is the archive that the crate `cakirotu` links.
+
+use crate::pieces::Tokens;
+
+extern "C" {
+    fn record_first_no(bytes: *const u8, len: usize, from: usize, to: usize) -> u8;
+
+    fn piece_tokens(
+        rec: *const u8,
+        len: usize,
+        first: u16,
+        instruction: u16,
+        what: u8,
+        text: *mut u8,
+        text_len: usize,
+        ends: *mut u32,
+        ends_len: usize,
+        kinds: *mut u8,
+        kinds_len: usize,
+    ) -> u64;
+}
+
+/// The first question of 1 to 11 that gets a no, or 0.
+pub fn first_no(bytes: &[u8], from: usize, to: usize) -> u8 {
+    // The function is total: it reads only the bytes lent.
+    unsafe { record_first_no(bytes.as_ptr(), bytes.len(), from, to) }
+}
+
+/// The tokens of one piece of an instruction, by the number of `pieces::Piece`.
+pub fn piece(bytes: &[u8], first: u16, instruction: u16, what: u8) -> Tokens {
+    let mut tokens = Tokens { text: vec![0; 2048], ends: vec![0; 64], kinds: vec![0; 64] };
+    let Tokens { text, ends, kinds } = &mut tokens;
+    // The function is total: it stores nothing past the lists lent.
+    let sizes = unsafe {
+        piece_tokens(
+            bytes.as_ptr(),
+            bytes.len(),
+            first,
+            instruction,
+            what,
+            text.as_mut_ptr(),
+            text.len(),
+            ends.as_mut_ptr(),
+            ends.len(),
+            kinds.as_mut_ptr(),
+            kinds.len(),
+        )
+    };
+    tokens.text.truncate((sizes >> 32) as usize);
+    tokens.ends.truncate(sizes as u32 as usize);
+    tokens.kinds.truncate(sizes as u32 as usize);
+    tokens
+}
