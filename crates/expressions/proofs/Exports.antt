@@ -1,7 +1,7 @@
 -- What the exported function leaves is what its definition says.
 -- By what is asked for, and by whether the record and the instruction are accepted.
-use mathlib.Core.Path.{_≡_, refl, sym, ap, _∙_}
-use mathlib.Core.Bool.{Bool, true, false, _&&_}
+use mathlib.Core.Path.{_≡_, sym, ap, _∙_}
+use mathlib.Core.Bool.{Bool, true, false}
 use mathlib.Core.List.{List}
 use Prim.Native.Nat.{ℕ, _+_, _-_, _*_, _≤_, _<_}
 use borrow.Author.Tests.{le-leb, lt-leb, lt-ltb, le-ltb, eqb-true}
@@ -13,7 +13,7 @@ use Rattle.tokens.specs.Sheet.{Sheet, sheet, ahead, firstPen, pushes}
 use Rattle.record.specs.declared.header.Header.{Header}
 use Rattle.record.specs.Header.{headerOf}
 use Rattle.operand.specs.Accepted.{accepted-rising}
-use Rattle.operand.specs.Lent.{Rising}
+use Rattle.operand.specs.Tables.{Rising}
 use Rattle.operand.specs.Memory.{memTokens}
 use Rattle.operand.specs.Operand.{opTokens}
 use Rattle.expressions.specs.Condition.{bodyOf, conditionTokens}

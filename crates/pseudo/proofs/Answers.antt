@@ -1,7 +1,7 @@
 -- What the call answers and leaves, by whether a question gets a no.
 -- With room for the sizes, what is stored from the start of a list stands over it.
 use mathlib.Core.Path.{_≡_, refl, sym, ap, _∙_}
-use mathlib.Core.Bool.{Bool, true, false, _&&_}
+use mathlib.Core.Bool.{_&&_}
 use mathlib.Core.List.{List, [], _∷_, map}
 use Prim.Native.Nat.{ℕ, zero, suc, _≤_}
 use native.Mathlib.Nat.{zero-add}
@@ -24,7 +24,6 @@ use Rattle.record.specs.AskedLaws.{passed}
 use Rattle.pseudo.specs.Called.{roomNo, roomsOf, sizesOf, over, Stands, Leaves, PlanListed}
 use Rattle.pseudo.specs.declared.rooms.Sizes.{Sizes}
 use Rattle.pseudo.specs.declared.rooms.Rooms.{Rooms}
-use Rattle.pseudo.specs.declared.call.Answer.{Answer}
 use Rattle.pseudo.specs.declared.call.Answer.the-variants.{Listed, No}
 
 record Roomy (z : Sizes) (r : Rooms) : Type 0 where

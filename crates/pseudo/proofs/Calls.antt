@@ -3,31 +3,31 @@
 use mathlib.Core.Path.{_≡_, refl, sym, ap, _∙_}
 use mathlib.Core.Bool.{Bool, true, false}
 use mathlib.Core.List.{List, [], _∷_, map}
-use Prim.Native.Nat.{ℕ, zero, suc, _*_, _^_, _≤_, _<_}
+use Prim.Native.Nat.{ℕ, zero, suc, _^_, _≤_, _<_}
 use native.Mathlib.Nat.{not-suc-le-zero}
 use native.Mathlib.Omega.{arith}
 use lib.IntN.{natAbs}
-use lib.ListN.{length, getD, take, length-map}
+use lib.ListN.{length, take, length-map}
 use Rattle.lists.specs.Bytes.{u32At}
 use Rattle.lists.specs.Put.{put}
 use Rattle.record.specs.declared.header.Header.{Header}
 use Rattle.record.specs.declared.asked.Asked.{Asked}
 use Rattle.record.specs.declared.asked.Asked.the-variants as case
 use Rattle.record.specs.Header.{headerOf, limitsOk}
-use Rattle.record.specs.Asked.{answerOf, firstNo, orElse}
-use Rattle.structure.specs.Plan.{Line, codeOf}
+use Rattle.record.specs.Asked.{answerOf, firstNo}
+use Rattle.structure.specs.Plan.{codeOf}
 use Rattle.structure.specs.Graph.{firstIn}
-use Rattle.structure.specs.Reads.{indentIn}
 use Rattle.structure.specs.Demand.{Shallow}
 use Rattle.structure.specs.Stored.{Stored}
 use Rattle.operand.specs.Accepted.{accepted-rising}
 use Rattle.operand.specs.Bounds.{AllBytes, i32-abs}
-use Rattle.operand.specs.Lent.{Rising}
+use Rattle.operand.specs.Tables.{Rising}
 use Rattle.flow.specs.Rows.{blockRows}
-use Rattle.flow.specs.Laws.{filled}
-use Rattle.flow.specs.Counted.{Counted, marks-counted, limits-small}
+use Rattle.flow.proofs.Laws.{filled}
+use Rattle.flow.specs.Counted.{Counted}
+use Rattle.flow.proofs.Totals.{marks-counted, limits-small}
 use Rattle.flow.specs.Planned.{recordPlan, recordCodes}
-use Rattle.flow.specs.Bounds.{record-placed, record-few, record-shallow}
+use Rattle.flow.proofs.Bounds.{record-placed, record-few, record-shallow}
 use Rattle.line.specs.Bounds.{Fits, printed-fits}
 use Rattle.line.specs.Lines.{lineIn, lines-again}
 use Rattle.line.specs.Print.{printed}

@@ -1,6 +1,6 @@
 -- The address and the mark of a line are what its code tells, and a loop stores those of all lines.
 -- By what the line is, a number below 9; what is left to store from here on is what there was from the start.
-use mathlib.Core.Path.{_≡_, refl, sym, ap, _∙_}
+use mathlib.Core.Path.{_≡_, refl, sym, _∙_}
 use mathlib.Core.List.{List, map}
 use Prim.Native.Nat.{ℕ, zero, suc, _+_, _≤_, _<_}
 use native.Mathlib.Numerals.{add-one}

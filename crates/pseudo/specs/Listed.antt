@@ -1,7 +1,6 @@
 -- The listing of a range of a record's blocks: six lists.
 use Prim.Native.Nat.{ℕ, _+_}
 use mathlib.Core.List.{List, map}
-use lib.ListN.{length}
 use Rattle.tokens.specs.Token.{Token}
 use Rattle.tokens.specs.Listing.{Listing, listing}
 use Rattle.record.specs.declared.header.Header.{Header}

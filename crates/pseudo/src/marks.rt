@@ -13,7 +13,7 @@ use structure::codes::place_of_line;
 use structure::codes::what_of;
 ghost use mathlib.Core.List.{map};
 ghost use mathlib.Core.Path.{_≡_};
-ghost use Prim.Native.Nat.{ℕ, _<_};
+ghost use Prim.Native.Nat.{_<_};
 ghost use Rattle.lists.specs.Put.{put};
 ghost use Rattle.structure.specs.Reads.{indentIn};
 ghost use Rattle.line.specs.Lines.{lineIn};

@@ -1,6 +1,5 @@
 -- `line_mark` meets its contract.
 -- By whether the line is a lone brace.
-use native.Mathlib.Omega.{arith}
 use Rattle.pseudo.proofs.Marking.{mark-none, mark-insn}
 use borrow.Author.Needs.{needs}
 use Rattle.pseudo.proofs.marks.line_mark.Statement.{statement}

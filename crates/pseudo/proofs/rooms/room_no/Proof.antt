@@ -2,7 +2,6 @@
 -- By its tests.
 use borrow.Author.Tests.{le-leb, lt-leb}
 use Rattle.pseudo.specs.Called.{roomNo}
-use borrow.Author.Needs.{needs}
 use Rattle.pseudo.proofs.rooms.room_no.Statement.{statement}
 use Rattle.pseudo.proofs.rooms.room_no.Tie as tie
 
