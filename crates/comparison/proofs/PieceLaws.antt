@@ -13,7 +13,7 @@ use Rattle.tokens.specs.Sheet.{Sheet, sheet, ahead, firstPen, pushes}
 use Rattle.record.specs.declared.header.Header.{Header}
 use Rattle.record.specs.Header.{headerOf}
 use Rattle.operand.specs.Accepted.{accepted-rising}
-use Rattle.operand.specs.Lent.{Rising}
+use Rattle.operand.specs.Tables.{Rising}
 use Rattle.operand.specs.Memory.{memTokens}
 use Rattle.operand.specs.Operand.{opTokens}
 use Rattle.expressions.specs.Condition.{bodyOf, conditionTokens}

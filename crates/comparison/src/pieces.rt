@@ -15,7 +15,7 @@ ghost use mathlib.Core.Path.{_≡_};
 ghost use Prim.Native.Nat.{_+_, _*_};
 ghost use Rattle.tokens.specs.Sheet.{sheet, ahead, firstPen, pushes};
 ghost use Rattle.record.specs.Header.{headerOf};
-ghost use Rattle.operand.specs.Lent.{Rising, Lent};
+ghost use Rattle.operand.specs.Tables.{Rising, Tables};
 ghost use Rattle.comparison.specs.Pieces.{answer, chosenTokens, isListed, exported};
 
 // What is asked for: an operand, the memory operand read or as an address, or a condition.
@@ -32,7 +32,7 @@ fn push_chosen(
     instruction: u16,
     what: u8,
 ) -> Pen
-    requires { ⌜ Lent (now words) (now isa) h (now rec) ⌝ }
+    requires { ⌜ Tables (now words) (now isa) h (now rec) ⌝ }
     ensures { λ r. ⌜ sheet (now (text .exit)) (now (ends .exit)) (now (kinds .exit)) r
         ≡ pushes (sheet (now (text .entry)) (now (ends .entry)) (now (kinds .entry)) pen) (chosenTokens h (now (rec .entry)) first instruction what) ⌝ }
 {

@@ -22,7 +22,7 @@ use Rattle.record.specs.Body.{bodyAt}
 use Rattle.operand.specs.Memory.{registerToken}
 use Rattle.operand.specs.Operand.{opTokens}
 use Rattle.expressions.specs.Condition.{bodyOf}
-use Rattle.expressions.specs.Arguments.{commaIf, listed, registerArguments, isHeard, pushesBack, pushed, argumentTokens}
+use Rattle.expressions.specs.Arguments.{commaIf, listed, registerArguments, isUnskipped, pushesBack, pushed, argumentTokens}
 use Rattle.expressions.specs.Turns.{comma-front}
 
 pub comma-then : (S S₁ S₂ : Sheet) (b : Bool) (ts : List Token) → b ≡ true → S₁ ≡ push S (wordToken 4) → S₂ ≡ pushes S₁ ts → S₂ ≡ pushes S (commaIf b ts)
@@ -73,8 +73,8 @@ module _ (convention mask n : ℕ) (e : n ≡ argumentCount convention mask) whe
 module _ (frame : ℕ) (bodies : List ℕ) (first k : ℕ) where
   back-step : first < k
       → pushesBack frame bodies first (k - first)
-      ≡ pick (isHeard frame bodies 23 (k - 1)) []
-      (pick (isHeard frame bodies 21 (k - 1)) ((k - 1) ∷ pushesBack frame bodies first (k - 1 - first)) (pushesBack frame bodies first (k - 1 - first)))
+      ≡ pick (isUnskipped frame bodies 23 (k - 1)) []
+      (pick (isUnskipped frame bodies 21 (k - 1)) ((k - 1) ∷ pushesBack frame bodies first (k - 1 - first)) (pushesBack frame bodies first (k - 1 - first)))
   unfolding pushesBack
   back-step h =
       let e : k - first ≡ suc (k - 1 - first) = omega arith in
@@ -86,31 +86,31 @@ module _ (frame : ℕ) (bodies : List ℕ) (first k : ℕ) where
     unfolding pushed pushesBack
     back-none l = let e : k - first ≡ 0 = omega arith in rw e
 
-    pub back-stop : (call : Bool) → first < k → call ≡ isHeard frame bodies 23 (k - 1) → call ≡ true → pushed h s comma (pushesBack frame bodies first (k - first)) ≡ []
+    pub back-stop : (call : Bool) → first < k → call ≡ isUnskipped frame bodies 23 (k - 1) → call ≡ true → pushed h s comma (pushesBack frame bodies first (k - first)) ≡ []
     unfolding pushed
     back-stop call l p q =
         let rest = pushesBack frame bodies first (k - 1 - first) in
-        let none : pick (isHeard frame bodies 23 (k - 1)) [] (pick (isHeard frame bodies 21 (k - 1)) ((k - 1) ∷ rest) rest) ≡ [] = rw (← p, q) in
+        let none : pick (isUnskipped frame bodies 23 (k - 1)) [] (pick (isUnskipped frame bodies 21 (k - 1)) ((k - 1) ∷ rest) rest) ≡ [] = rw (← p, q) in
         ap (pushed h s comma) (back-step l ∙ none)
 
-pushed-front : (h : Header) (s : List ℕ) (comma heard : Bool) (j : ℕ) (is : List ℕ)
-    → pushed h s comma (pick heard (j ∷ is) is) ≡ pick heard (commaIf comma (opTokens h s (bodyOf h s j) 0)) [] ++ pushed h s (comma || heard) is
+pushed-front : (h : Header) (s : List ℕ) (comma kept : Bool) (j : ℕ) (is : List ℕ)
+    → pushed h s comma (pick kept (j ∷ is) is) ≡ pick kept (commaIf comma (opTokens h s (bodyOf h s j) 0)) [] ++ pushed h s (comma || kept) is
 unfolding pushed
 pushed-front h s true true j is = refl
 pushed-front h s true false j is = refl
 pushed-front h s false true j is = refl
 pushed-front h s false false j is = refl
 
-module _ (h : Header) (s : List ℕ) (frame : ℕ) (bodies : List ℕ) (e : bodies ≡ bodiesOf h s) (first k : ℕ) (l : first < k) (comma heard call : Bool)
-    (p : call ≡ isHeard frame bodies 23 (k - 1)) (q : call ≡ false) (r : heard ≡ isHeard frame bodies 21 (k - 1)) (b : List ℕ) (t : b ≡ bodyAt bodies (k - 1)) where
+module _ (h : Header) (s : List ℕ) (frame : ℕ) (bodies : List ℕ) (e : bodies ≡ bodiesOf h s) (first k : ℕ) (l : first < k) (comma kept call : Bool)
+    (p : call ≡ isUnskipped frame bodies 23 (k - 1)) (q : call ≡ false) (r : kept ≡ isUnskipped frame bodies 21 (k - 1)) (b : List ℕ) (t : b ≡ bodyAt bodies (k - 1)) where
   pub back-turn : pushed h s comma (pushesBack frame bodies first (k - first))
-      ≡ pick heard (commaIf comma (opTokens h s b 0)) [] ++ pushed h s (comma || heard) (pushesBack frame bodies first (k - 1 - first))
+      ≡ pick kept (commaIf comma (opTokens h s b 0)) [] ++ pushed h s (comma || kept) (pushesBack frame bodies first (k - 1 - first))
   back-turn =
       let rest = pushesBack frame bodies first (k - 1 - first) in
-      let front : pick (isHeard frame bodies 23 (k - 1)) [] (pick (isHeard frame bodies 21 (k - 1)) ((k - 1) ∷ rest) rest) ≡ pick heard ((k - 1) ∷ rest) rest = rw (← p, q, ← r) in
+      let front : pick (isUnskipped frame bodies 23 (k - 1)) [] (pick (isUnskipped frame bodies 21 (k - 1)) ((k - 1) ∷ rest) rest) ≡ pick kept ((k - 1) ∷ rest) rest = rw (← p, q, ← r) in
       let body : bodyOf h s (k - 1) ≡ b = sym (t ∙ ap (λ (x : List ℕ). bodyAt x (k - 1)) e) in
-      ap (pushed h s comma) (back-step frame bodies first k l ∙ front) ∙ pushed-front h s comma heard (k - 1) rest
-      ∙ ap (λ (x : List ℕ). pick heard (commaIf comma (opTokens h s x 0)) [] ++ pushed h s (comma || heard) rest) body
+      ap (pushed h s comma) (back-step frame bodies first k l ∙ front) ∙ pushed-front h s comma kept (k - 1) rest
+      ∙ ap (λ (x : List ℕ). pick kept (commaIf comma (opTokens h s x 0)) [] ++ pushed h s (comma || kept) rest) body
 
 -- which arguments, by the bits
 module _ (h : Header) (s : List ℕ) (first i mask : ℕ) where

@@ -6,9 +6,7 @@ use mathlib.Core.List.{List, [], _∷_, _++_}
 use Prim.Native.Nat.{ℕ, _+_, _-_, _≤_, _<_}
 use native.Mathlib.Omega.{arith}
 use borrow.Author.Tests.{lt-ltb, le-ltb, eq-eqb, ne-eqb}
-use lib.Dec.{eqb}
 use lib.ListN.{length, List·getD-eq-default}
-use Rattle.lists.specs.Choice.{pick}
 use Rattle.lists.specs.Entries.{tab, entry}
 use Rattle.tokens.specs.Token.{Token, token, punct, keyword}
 use Rattle.tokens.specs.Words.{words, wordToken}
@@ -19,7 +17,6 @@ use Rattle.record.specs.declared.header.Header.{Header}
 use Rattle.record.specs.Layout.{bodiesOf}
 use Rattle.record.specs.Body.{bodyAt, mnemonicOf}
 use Rattle.operand.specs.Expr.{wrapIf}
-use Rattle.operand.specs.Memory.{number}
 use Rattle.operand.specs.Operand.{opTokens}
 use Rattle.operand.specs.Alike.{alike}
 use Rattle.expressions.specs.Condition.{operator, flagsWord, relationOr, unsignedIf, flagWriter, afterCmp, tested, afterTest, afterOther, afterWriter, conditionTokens}

@@ -5,15 +5,16 @@ use mathlib.Core.List.{List, [], _∷_, _++_}
 use lib.Dec.{eqb, ltb}
 use lib.ListN.{take}
 use Rattle.lists.specs.Choice.{pick}
-use Rattle.tokens.specs.Token.{Token, token, punct}
-use Rattle.x86.specs.Registers.{fullRegister, registerName}
+use Rattle.tokens.specs.Token.{Token, punct}
+use Rattle.x86.specs.Mnemonics.{push, call}
+use Rattle.x86.specs.Registers.{fullRegister}
 use Rattle.x86.specs.Conventions.{argumentRegisters, argumentCount, withWritten}
 use Rattle.record.specs.declared.header.Header.{Header}
 use Rattle.record.specs.Layout.{bodiesOf}
 use Rattle.record.specs.Body.{bodyAt, mnemonicOf, operandCount, operandKind, operandRegister}
 use Rattle.operand.specs.Memory.{registerToken}
 use Rattle.operand.specs.Operand.{opTokens}
-use Rattle.flow.specs.Silent.{isSkipped, push, call}
+use Rattle.flow.specs.Silent.{isSkipped}
 use Rattle.expressions.specs.Condition.{bodyOf}
 
 -- ", " between, nothing before the first
@@ -21,7 +22,7 @@ abbrev pub commaIf : Bool → List Token → List Token
 commaIf true ts = punct ", " ∷ ts
 commaIf false ts = ts
 
--- "Microsoft x64's rcx rdx r8 r9, or System V's rdi rsi rdx rcx r8 r9": registers with commas between
+-- registers with commas between
 unfoldable pub listed : Bool → List ℕ → List Token
 listed comma [] = []
 listed comma (r ∷ rs) = commaIf comma (registerToken r ∷ listed true rs)
@@ -31,15 +32,15 @@ unfoldable pub registerArguments : ℕ → ℕ → List Token
 registerArguments convention mask = listed false (take (argumentCount convention mask) (argumentRegisters convention))
 
 -- instruction i has mnemonic m and is not skipped; the part given begins at the bodies
-unfoldable pub isHeard : ℕ → List ℕ → ℕ → ℕ → Bool
-isHeard frame bodies m i = eqb (mnemonicOf (bodyAt bodies i)) m && not (isSkipped frame (bodyAt bodies i))
+unfoldable pub isUnskipped : ℕ → List ℕ → ℕ → ℕ → Bool
+isUnskipped frame bodies m i = eqb (mnemonicOf (bodyAt bodies i)) m && not (isSkipped frame (bodyAt bodies i))
 
 -- with bits 32: of the n instructions from `first` on the pushes since the last call that is not silent, the last one first
 unfoldable pub pushesBack : ℕ → List ℕ → ℕ → ℕ → List ℕ
 pushesBack frame bodies first zero = []
 pushesBack frame bodies first (suc n) =
-    pick (isHeard frame bodies call (first + n)) []
-    (pick (isHeard frame bodies push (first + n)) ((first + n) ∷ pushesBack frame bodies first n) (pushesBack frame bodies first n))
+    pick (isUnskipped frame bodies call (first + n)) []
+    (pick (isUnskipped frame bodies push (first + n)) ((first + n) ∷ pushesBack frame bodies first n) (pushesBack frame bodies first n))
 
 module _ (h : Header) (s : List ℕ) where
   unfoldable pub pushed : Bool → List ℕ → List Token

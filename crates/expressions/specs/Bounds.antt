@@ -18,11 +18,11 @@ use Rattle.operand.specs.Alike.{alike}
 use Rattle.operand.specs.Memory.{number}
 use Rattle.operand.specs.Operand.{opTokens}
 use Rattle.operand.specs.Bounds.{AllBytes, bytes-drop, pick-le, upTo, Within, nothing, more, one, both, either, wrapped, register-within, number-within, word-within, op-within}
-use Rattle.flow.specs.Silent.{push, call}
+use Rattle.x86.specs.Mnemonics.{push, call}
 use Rattle.record.specs.declared.search.Found.{Found}
 use Rattle.record.specs.declared.search.Found.the-variants.{At, Nothing}
 use Rattle.expressions.specs.Condition.{operator, relationOr, unsignedIf, flagWriter, bodyOf, afterCmp, tested, afterWriter, conditionAfter, conditionTokens}
-use Rattle.expressions.specs.Arguments.{commaIf, listed, registerArguments, isHeard, pushesBack, pushed, argumentTokens}
+use Rattle.expressions.specs.Arguments.{commaIf, listed, registerArguments, isUnskipped, pushesBack, pushed, argumentTokens}
 
 -- tokens behind a comma, or none
 pub comma-within : {n m : ℕ} {ts : List Token} (b : Bool) → Within n m ts → Within (1 + n) (2 + m) (commaIf b ts)
@@ -59,8 +59,8 @@ unfolding pushesBack
 back-few frame bodies first zero = omega arith
 back-few frame bodies first (suc n) =
     let l = back-few frame bodies first n in
-    pick-le length (suc n) (isHeard frame bodies call (first + n)) _ _ (omega arith)
-    (pick-le length (suc n) (isHeard frame bodies push (first + n)) _ _ (omega (arith, l)) (omega (arith, l)))
+    pick-le length (suc n) (isUnskipped frame bodies call (first + n)) _ _ (omega arith)
+    (pick-le length (suc n) (isUnskipped frame bodies push (first + n)) _ _ (omega (arith, l)) (omega (arith, l)))
 
 pub body-bytes : (h : Header) (s : List ℕ) → AllBytes s → (i : ℕ) → AllBytes (bodyOf h s i)
 body-bytes h s ss i = bytes-drop (92 * i) (bodiesOf h s) (bytes-drop (bodiesAt h) s ss)

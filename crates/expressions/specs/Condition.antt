@@ -1,12 +1,12 @@
 -- `condition`: what a condition of an instruction prints. "The nearest flag writer before the tested instruction, in the same block."
-use Prim.Native.Nat.{ℕ, zero, suc, _+_, _-_}
+use Prim.Native.Nat.{ℕ, _+_, _-_}
 use mathlib.Core.Bool.{Bool, true, false}
 use mathlib.Core.List.{List, [], _∷_, _++_}
 use lib.Dec.{eqb, ltb}
 use Rattle.lists.specs.Choice.{pick}
 use Rattle.tokens.specs.Token.{Token, token, punct, keyword}
 use Rattle.tokens.specs.Words.{wordToken}
-use Rattle.x86.specs.Mnemonics.{writesFlags}
+use Rattle.x86.specs.Mnemonics.{cmp, test, writesFlags}
 use Rattle.x86.specs.Conditions.{operatorText, relationAfterCmp, relationAfterTest, relationAfterOther, printsUnsigned}
 use Rattle.record.specs.declared.header.Header.{Header}
 use Rattle.record.specs.Layout.{bodiesOf}
@@ -61,9 +61,9 @@ module _ (h : Header) (s : List ℕ) where
   abbrev pub afterOther : List ℕ → ℕ → List Token
   afterOther b cc = relationOr cc (relationAfterOther cc) (opTokens h s b 0 ++ (operator (relationAfterOther cc) ∷ number false 0 ∷ []))
 
-  -- after the flag writer with this body: cmp is 38, test 39
+  -- after the flag writer with this body
   unfoldable pub afterWriter : List ℕ → ℕ → List Token
-  afterWriter b cc = pick (eqb (mnemonicOf b) 38) (afterCmp b cc) (pick (eqb (mnemonicOf b) 39) (afterTest b cc) (afterOther b cc))
+  afterWriter b cc = pick (eqb (mnemonicOf b) cmp) (afterCmp b cc) (pick (eqb (mnemonicOf b) test) (afterTest b cc) (afterOther b cc))
 
   abbrev pub conditionAfter : Found → ℕ → List Token
   conditionAfter (At p) cc = afterWriter (bodyOf p) cc

@@ -19,7 +19,7 @@ use x86::conventions::with_written;
 use x86::registers::full_register;
 ghost use mathlib.Core.Path.{_≡_};
 ghost use Rattle.x86.specs.Table.{isaBytes};
-ghost use mathlib.Core.Bool.{true, false};
+ghost use mathlib.Core.Bool.{false};
 ghost use mathlib.Core.List.{[], _∷_};
 ghost use lib.Dec.{ltb};
 ghost use Rattle.lists.specs.Choice.{pick};
@@ -28,10 +28,10 @@ ghost use Rattle.tokens.specs.Words.{wordBytes};
 ghost use Rattle.x86.specs.Conventions.{argumentRegister};
 ghost use Rattle.operand.specs.Memory.{registerToken};
 ghost use Rattle.tokens.specs.Sheet.{sheet, pushes};
-ghost use Rattle.operand.specs.Lent.{Lent};
+ghost use Rattle.operand.specs.Tables.{Tables};
 ghost use Rattle.record.specs.Layout.{bodiesOf};
 ghost use Rattle.operand.specs.Operand.{opTokens};
-ghost use Rattle.expressions.specs.Arguments.{commaIf, isHeard, registerArguments, pushesBack, pushed, argumentTokens, writtenAfter};
+ghost use Rattle.expressions.specs.Arguments.{commaIf, isUnskipped, registerArguments, pushesBack, pushed, argumentTokens, writtenAfter};
 
 // The registers written once an instruction's own line is there: a call clears the mask.
 pub fn written_after(isa: &[u8], mask: u16, body: &[u8]) -> u16
@@ -98,9 +98,9 @@ pub fn register_arguments(
 }
 
 // Whether instruction i has mnemonic m and is not skipped.
-fn is_heard(isa: &[u8], bodies: &[u8], frame: u16, m: u8, i: u16) -> bool
+fn is_unskipped(isa: &[u8], bodies: &[u8], frame: u16, m: u8, i: u16) -> bool
     requires { ⌜ now isa ≡ isaBytes ⌝ }
-    ensures { λ r. ⌜ r ≡ isHeard frame (now (bodies .entry)) m i ⌝ }
+    ensures { λ r. ⌜ r ≡ isUnskipped frame (now (bodies .entry)) m i ⌝ }
 {
     let body = body_at(bodies, i);
     if mnemonic(body) == m {
@@ -123,7 +123,7 @@ pub fn push_listed(
     i: u8,
     comma: bool,
 ) -> Pen
-    requires { ⌜ Lent (now words) (now isa) h (now rec) ⌝ }
+    requires { ⌜ Tables (now words) (now isa) h (now rec) ⌝ }
     ensures { λ r. ⌜ sheet (now (text .exit)) (now (ends .exit)) (now (kinds .exit)) r
         ≡ pushes (sheet (now (text .entry)) (now (ends .entry)) (now (kinds .entry)) pen) (commaIf comma (opTokens h (now (rec .entry)) (now (body .entry)) i)) ⌝ }
 {
@@ -134,7 +134,7 @@ pub fn push_listed(
     op(text, ends, kinds, pen, words, isa, rec, h, body, i)
 }
 
-// What a push pushes, if it is heard.
+// What a push pushes, if it is not skipped.
 fn push_argument(
     text: &mut [u8],
     ends: &mut [u32],
@@ -146,13 +146,13 @@ fn push_argument(
     h: Header,
     body: &[u8],
     comma: bool,
-    heard: bool,
+    kept: bool,
 ) -> Pen
-    requires { ⌜ Lent (now words) (now isa) h (now rec) ⌝ }
+    requires { ⌜ Tables (now words) (now isa) h (now rec) ⌝ }
     ensures { λ r. ⌜ sheet (now (text .exit)) (now (ends .exit)) (now (kinds .exit)) r
-        ≡ pushes (sheet (now (text .entry)) (now (ends .entry)) (now (kinds .entry)) pen) (pick heard (commaIf comma (opTokens h (now (rec .entry)) (now (body .entry)) 0)) []) ⌝ }
+        ≡ pushes (sheet (now (text .entry)) (now (ends .entry)) (now (kinds .entry)) pen) (pick kept (commaIf comma (opTokens h (now (rec .entry)) (now (body .entry)) 0)) []) ⌝ }
 {
-    if heard {
+    if kept {
         return push_listed(text, ends, kinds, pen, words, isa, rec, h, body, 0, comma);
     }
     pen
@@ -171,7 +171,7 @@ pub fn pushed_arguments(
     first: u16,
     i: u16,
 ) -> Pen
-    requires { ⌜ Lent (now words) (now isa) h (now rec) ⌝ }
+    requires { ⌜ Tables (now words) (now isa) h (now rec) ⌝ }
     ensures { λ r. ⌜ sheet (now (text .exit)) (now (ends .exit)) (now (kinds .exit)) r
         ≡ pushes (sheet (now (text .entry)) (now (ends .entry)) (now (kinds .entry)) pen) (pushed h (now (rec .entry)) false (pushesBack (h .frame) (bodiesOf h (now (rec .entry))) first (i - first))) ⌝ }
 {
@@ -182,13 +182,13 @@ pub fn pushed_arguments(
     let mut k = i;
     while first < k {
         let j = k - 1;
-        if is_heard(isa, bodies, frame, 23, j) {
+        if is_unskipped(isa, bodies, frame, 23, j) {
             return p;
         }
-        let heard = is_heard(isa, bodies, frame, 21, j);
+        let kept = is_unskipped(isa, bodies, frame, 21, j);
         let body = body_at(bodies, j);
-        p = push_argument(text, ends, kinds, p, words, isa, rec, h, body, comma, heard);
-        comma = comma | heard;
+        p = push_argument(text, ends, kinds, p, words, isa, rec, h, body, comma, kept);
+        comma = comma | kept;
         k = j;
     }
     p
@@ -208,7 +208,7 @@ pub fn arguments(
     i: u16,
     mask: u16,
 ) -> Pen
-    requires { ⌜ Lent (now words) (now isa) h (now rec) ⌝ }
+    requires { ⌜ Tables (now words) (now isa) h (now rec) ⌝ }
     ensures { λ r. ⌜ sheet (now (text .exit)) (now (ends .exit)) (now (kinds .exit)) r
         ≡ pushes (sheet (now (text .entry)) (now (ends .entry)) (now (kinds .entry)) pen) (argumentTokens h (now (rec .entry)) first i mask) ⌝ }
 {

@@ -21,18 +21,18 @@ use x86::conditions::relation_after_other;
 use x86::conditions::relation_after_test;
 use x86::mnemonics::writes_flags;
 ghost use mathlib.Core.Path.{_≡_};
-ghost use Prim.Native.Nat.{_-_};
-ghost use Rattle.x86.specs.Table.{isaBytes};
-ghost use mathlib.Core.List.{[], _∷_, _++_};
-ghost use Prim.Native.Nat.{_<_};
-ghost use Rattle.tokens.specs.Sheet.{sheet, pushes};
-ghost use Rattle.operand.specs.Lent.{Lent};
-ghost use Rattle.operand.specs.Operand.{opTokens};
-ghost use Rattle.operand.specs.Memory.{number};
 ghost use mathlib.Core.Bool.{true, false};
+ghost use mathlib.Core.List.{[], _∷_, _++_};
+ghost use Prim.Native.Nat.{_-_, _<_};
 ghost use Rattle.tokens.specs.Token.{punct};
+ghost use Rattle.tokens.specs.Words.{wordBytes};
+ghost use Rattle.tokens.specs.Sheet.{sheet, pushes};
+ghost use Rattle.x86.specs.Table.{isaBytes};
 ghost use Rattle.x86.specs.Conditions.{printsUnsigned};
 ghost use Rattle.operand.specs.Expr.{wrapIf};
+ghost use Rattle.operand.specs.Memory.{number};
+ghost use Rattle.operand.specs.Operand.{opTokens};
+ghost use Rattle.operand.specs.Tables.{Tables};
 ghost use Rattle.expressions.specs.Condition.{bodyOf, flagWriter, flagsWord, operator, unsignedIf, afterCmp, tested, afterTest, afterOther, afterWriter, conditionTokens};
 
 // The body of instruction i.
@@ -65,12 +65,9 @@ fn push_flags(
     kinds: &mut [u8],
     pen: Pen,
     words: &[u8],
-    isa: &[u8],
-    rec: &[u8],
-    h: Header,
     cc: u8,
 ) -> Pen
-    requires { ⌜ Lent (now words) (now isa) h (now rec) ⌝ }
+    requires { ⌜ now words ≡ wordBytes ⌝ }
     ensures { λ r. ⌜ sheet (now (text .exit)) (now (ends .exit)) (now (kinds .exit)) r
         ≡ pushes (sheet (now (text .entry)) (now (ends .entry)) (now (kinds .entry)) pen) (flagsWord cc ∷ []) ⌝ }
 {
@@ -87,12 +84,9 @@ fn push_against(
     kinds: &mut [u8],
     pen: Pen,
     words: &[u8],
-    isa: &[u8],
-    rec: &[u8],
-    h: Header,
     relation: u8,
 ) -> Pen
-    requires { ⌜ Lent (now words) (now isa) h (now rec) ⌝ }
+    requires { ⌜ now words ≡ wordBytes ⌝ }
     requires { ⌜ relation < 6 ⌝ }
     ensures { λ r. ⌜ sheet (now (text .exit)) (now (ends .exit)) (now (kinds .exit)) r
         ≡ pushes (sheet (now (text .entry)) (now (ends .entry)) (now (kinds .entry)) pen) (operator relation ∷ number false 0 ∷ []) ⌝ }
@@ -114,7 +108,7 @@ fn push_unsigned(
     body: &[u8],
     cc: u8,
 ) -> Pen
-    requires { ⌜ Lent (now words) (now isa) h (now rec) ⌝ }
+    requires { ⌜ Tables (now words) (now isa) h (now rec) ⌝ }
     ensures { λ r. ⌜ sheet (now (text .exit)) (now (ends .exit)) (now (kinds .exit)) r
         ≡ pushes (sheet (now (text .entry)) (now (ends .entry)) (now (kinds .entry)) pen) (unsignedIf (printsUnsigned cc) (opTokens h (now (rec .entry)) (now (body .entry)) 0)) ⌝ }
 {
@@ -137,7 +131,7 @@ fn after_cmp(
     body: &[u8],
     cc: u8,
 ) -> Pen
-    requires { ⌜ Lent (now words) (now isa) h (now rec) ⌝ }
+    requires { ⌜ Tables (now words) (now isa) h (now rec) ⌝ }
     ensures { λ r. ⌜ sheet (now (text .exit)) (now (ends .exit)) (now (kinds .exit)) r
         ≡ pushes (sheet (now (text .entry)) (now (ends .entry)) (now (kinds .entry)) pen) (afterCmp h (now (rec .entry)) (now (body .entry)) cc) ⌝ }
 {
@@ -147,7 +141,7 @@ fn after_cmp(
         let o = push_word(text, ends, kinds, a, words, EQUAL + r);
         return op(text, ends, kinds, o, words, isa, rec, h, body, 1);
     }
-    push_flags(text, ends, kinds, pen, words, isa, rec, h, cc)
+    push_flags(text, ends, kinds, pen, words, cc)
 }
 
 fn after_other(
@@ -162,16 +156,16 @@ fn after_other(
     body: &[u8],
     cc: u8,
 ) -> Pen
-    requires { ⌜ Lent (now words) (now isa) h (now rec) ⌝ }
+    requires { ⌜ Tables (now words) (now isa) h (now rec) ⌝ }
     ensures { λ r. ⌜ sheet (now (text .exit)) (now (ends .exit)) (now (kinds .exit)) r
         ≡ pushes (sheet (now (text .entry)) (now (ends .entry)) (now (kinds .entry)) pen) (afterOther h (now (rec .entry)) (now (body .entry)) cc) ⌝ }
 {
     let r = relation_after_other(isa, cc);
     if r < 6 {
         let a = op(text, ends, kinds, pen, words, isa, rec, h, body, 0);
-        return push_against(text, ends, kinds, a, words, isa, rec, h, r);
+        return push_against(text, ends, kinds, a, words, r);
     }
-    push_flags(text, ends, kinds, pen, words, isa, rec, h, cc)
+    push_flags(text, ends, kinds, pen, words, cc)
 }
 
 // Both operands of TEST, with `&` between.
@@ -186,7 +180,7 @@ fn push_and(
     h: Header,
     body: &[u8],
 ) -> Pen
-    requires { ⌜ Lent (now words) (now isa) h (now rec) ⌝ }
+    requires { ⌜ Tables (now words) (now isa) h (now rec) ⌝ }
     ensures { λ r. ⌜ sheet (now (text .exit)) (now (ends .exit)) (now (kinds .exit)) r
         ≡ pushes (sheet (now (text .entry)) (now (ends .entry)) (now (kinds .entry)) pen) (opTokens h (now (rec .entry)) (now (body .entry)) 0 ++ (punct " & " ∷ opTokens h (now (rec .entry)) (now (body .entry)) 1)) ⌝ }
 {
@@ -207,7 +201,7 @@ fn push_both(
     h: Header,
     body: &[u8],
 ) -> Pen
-    requires { ⌜ Lent (now words) (now isa) h (now rec) ⌝ }
+    requires { ⌜ Tables (now words) (now isa) h (now rec) ⌝ }
     ensures { λ r. ⌜ sheet (now (text .exit)) (now (ends .exit)) (now (kinds .exit)) r
         ≡ pushes (sheet (now (text .entry)) (now (ends .entry)) (now (kinds .entry)) pen) (wrapIf true (opTokens h (now (rec .entry)) (now (body .entry)) 0 ++ (punct " & " ∷ opTokens h (now (rec .entry)) (now (body .entry)) 1))) ⌝ }
 {
@@ -228,7 +222,7 @@ fn push_tested(
     h: Header,
     body: &[u8],
 ) -> Pen
-    requires { ⌜ Lent (now words) (now isa) h (now rec) ⌝ }
+    requires { ⌜ Tables (now words) (now isa) h (now rec) ⌝ }
     ensures { λ r. ⌜ sheet (now (text .exit)) (now (ends .exit)) (now (kinds .exit)) r
         ≡ pushes (sheet (now (text .entry)) (now (ends .entry)) (now (kinds .entry)) pen) (tested h (now (rec .entry)) (now (body .entry))) ⌝ }
 {
@@ -250,16 +244,16 @@ fn after_test(
     body: &[u8],
     cc: u8,
 ) -> Pen
-    requires { ⌜ Lent (now words) (now isa) h (now rec) ⌝ }
+    requires { ⌜ Tables (now words) (now isa) h (now rec) ⌝ }
     ensures { λ r. ⌜ sheet (now (text .exit)) (now (ends .exit)) (now (kinds .exit)) r
         ≡ pushes (sheet (now (text .entry)) (now (ends .entry)) (now (kinds .entry)) pen) (afterTest h (now (rec .entry)) (now (body .entry)) cc) ⌝ }
 {
     let r = relation_after_test(isa, cc);
     if r < 6 {
         let a = push_tested(text, ends, kinds, pen, words, isa, rec, h, body);
-        return push_against(text, ends, kinds, a, words, isa, rec, h, r);
+        return push_against(text, ends, kinds, a, words, r);
     }
-    push_flags(text, ends, kinds, pen, words, isa, rec, h, cc)
+    push_flags(text, ends, kinds, pen, words, cc)
 }
 
 // A condition after the flag writer with this body.
@@ -275,7 +269,7 @@ fn after_writer(
     body: &[u8],
     cc: u8,
 ) -> Pen
-    requires { ⌜ Lent (now words) (now isa) h (now rec) ⌝ }
+    requires { ⌜ Tables (now words) (now isa) h (now rec) ⌝ }
     ensures { λ r. ⌜ sheet (now (text .exit)) (now (ends .exit)) (now (kinds .exit)) r
         ≡ pushes (sheet (now (text .entry)) (now (ends .entry)) (now (kinds .entry)) pen) (afterWriter h (now (rec .entry)) (now (body .entry)) cc) ⌝ }
 {
@@ -303,7 +297,7 @@ pub fn condition(
     i: u16,
     cc: u8,
 ) -> Pen
-    requires { ⌜ Lent (now words) (now isa) h (now rec) ⌝ }
+    requires { ⌜ Tables (now words) (now isa) h (now rec) ⌝ }
     ensures { λ r. ⌜ sheet (now (text .exit)) (now (ends .exit)) (now (kinds .exit)) r
         ≡ pushes (sheet (now (text .entry)) (now (ends .entry)) (now (kinds .entry)) pen) (conditionTokens h (now (rec .entry)) first i cc) ⌝ }
 {
@@ -321,6 +315,6 @@ pub fn condition(
             body_at(bodies, p),
             cc,
         ),
-        Found::Nothing => push_flags(text, ends, kinds, pen, words, isa, rec, h, cc),
+        Found::Nothing => push_flags(text, ends, kinds, pen, words, cc),
     }
 }

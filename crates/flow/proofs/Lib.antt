@@ -1,2 +1,6 @@
 pub mod Storing
 pub mod Row
+pub mod Totals
+pub mod Laws
+pub mod Terms
+pub mod Bounds

@@ -12,7 +12,7 @@ use Rattle.record.specs.declared.header.Header.{Header}
 use Rattle.record.specs.Layout.{marksOf, targetsOf, edgeKindsOf, bodiesOf}
 use Rattle.record.specs.Blocks.{instructionsIn, edgesIn, labelMark, firstInstruction, firstEdge, targetAt, edgeKindAt}
 use Rattle.record.specs.Body.{bodyAt, operandNumber}
-use Rattle.flow.specs.Silent.{isQuiet, endingOf}
+use Rattle.flow.specs.Silent.{isSilentItself, endingOf}
 use Rattle.flow.specs.Rows.{placeOf, lastBody, blockEnding, blockBranch, blockRow, edgeRow, shownRow}
 use Rattle.flow.specs.Counted.{BlockHas, rowEnding}
 
@@ -22,7 +22,7 @@ array s p w v a b = b ∙ ap (λ (k : ℕ). drop k s) a
 
 module _ (h : Header) (s : List ℕ) where
   pub shown-stored : (i : ℕ) (bodies body l l′ : List ℕ) (z v : ℕ) → bodies ≡ bodiesOf h s → z ≡ i → body ≡ bodyAt bodies i
-      → v ≡ pick (isQuiet (h .frame) body) 0 1 → l′ ≡ set l z v → l′ ≡ put i (shownRow h s i) l
+      → v ≡ pick (isSilentItself (h .frame) body) 0 1 → l′ ≡ set l z v → l′ ≡ put i (shownRow h s i) l
   unfolding shownRow
   shown-stored i bodies body l l′ z v a b c d e = e ∙ rw (d, c, a, b, put-cons, put-none)
 

@@ -1,6 +1,5 @@
 -- The rows of a record: what the structure reads of its blocks, edges and instructions.
 use Prim.Native.Nat.{ℕ, zero, suc, _+_, _-_}
-use mathlib.Core.Bool.{Bool, true, false}
 use mathlib.Core.List.{List, [], _∷_, _++_}
 use lib.Dec.{eqb, leb}
 use Rattle.lists.specs.Choice.{pick}
@@ -11,7 +10,7 @@ use Rattle.record.specs.Body.{bodyAt, operandNumber}
 use Rattle.record.specs.Search.{findFrom}
 use Rattle.record.specs.declared.search.Found.{Found}
 use Rattle.record.specs.declared.search.Found.the-variants.{At, Nothing}
-use Rattle.flow.specs.Silent.{isQuiet, endingOf}
+use Rattle.flow.specs.Silent.{isSilentItself, endingOf}
 
 -- the rows of n numbers from k on
 unfoldable pub rowsFrom : (ℕ → List ℕ) → ℕ → ℕ → List ℕ
@@ -65,7 +64,7 @@ module _ (h : Header) (s : List ℕ) where
 
   -- one number an instruction: 1 if it is not silent by itself
   unfoldable pub shownRow : ℕ → List ℕ
-  shownRow i = pick (isQuiet (h .frame) (bodyAt (bodiesOf h s) i)) 0 1 ∷ []
+  shownRow i = pick (isSilentItself (h .frame) (bodyAt (bodiesOf h s) i)) 0 1 ∷ []
 
   unfoldable pub shownRows : List ℕ
   shownRows = rowsFrom shownRow 0 (h .instructions)

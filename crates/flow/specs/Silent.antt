@@ -5,45 +5,17 @@ use mathlib.Core.List.{List, [], _∷_}
 use lib.Dec.{eqb, leb}
 use Rattle.lists.specs.Choice.{pick}
 use Rattle.x86.specs.Words.{isOneOf}
-use Rattle.x86.specs.Registers.{calleeSaved}
+use Rattle.x86.specs.Registers.{isStackPointer, calleeSaved}
+use Rattle.x86.specs.Mnemonics.{mov, lea, add, sub, push, pop, jmp, cdq, cqo, cdqe, cwde, cmp, test, leave, endbr32}
 use Rattle.record.specs.Body.{mnemonicOf, conditionOf, skipMark, operandKind, operandRegister}
-
--- the mnemonics that the rules name
-abbrev pub mov : ℕ
-mov = 1
-
-abbrev pub lea : ℕ
-lea = 5
-
-abbrev pub add : ℕ
-add = 9
-
-abbrev pub sub : ℕ
-sub = 10
-
-abbrev pub push : ℕ
-push = 21
-
-abbrev pub pop : ℕ
-pop = 22
-
-abbrev pub call : ℕ
-call = 23
-
-abbrev pub jmp : ℕ
-jmp = 25
 
 -- "cmp, test, push, cdq, cqo, cdqe, cwde"
 abbrev pub folded : ℕ → Bool
-folded m = isOneOf m (38 ∷ 39 ∷ push ∷ 32 ∷ 33 ∷ 34 ∷ 35 ∷ [])
+folded m = isOneOf m (cmp ∷ test ∷ push ∷ cdq ∷ cqo ∷ cdqe ∷ cwde ∷ [])
 
--- leave nop int3 endbr64 endbr32
+-- leave nop int3 endbr64 endbr32, which are the last
 abbrev pub padding : ℕ → Bool
-padding m = leb 41 m && leb m 45
-
--- esp and rsp
-abbrev pub isSp : ℕ → Bool
-isSp r = eqb r 0x44 || eqb r 0x54
+padding m = leb leave m && leb m endbr32
 
 abbrev pub registerFirst : List ℕ → Bool
 registerFirst b = eqb (operandKind b 0) 0
@@ -51,8 +23,8 @@ registerFirst b = eqb (operandKind b 0) 0
 -- a copy of the stack pointer to the frame register, "equal to nothing" where it is 0, or a write of the stack pointer
 abbrev pub movesFrame : ℕ → List ℕ → Bool
 movesFrame frame b =
-    (not (eqb frame 0) && eqb (operandRegister b 0) frame && eqb (operandKind b 1) 0 && isSp (operandRegister b 1))
-    || isSp (operandRegister b 0)
+    (not (eqb frame 0) && eqb (operandRegister b 0) frame && eqb (operandKind b 1) 0 && isStackPointer (operandRegister b 1))
+    || isStackPointer (operandRegister b 0)
 
 -- "prologue noise (`is_prologue_noise` says so)": saves and restores of the registers that a callee saves, moves of the stack
 -- pointer, and padding
@@ -60,9 +32,9 @@ unfoldable pub isPrologueNoise : ℕ → List ℕ → Bool
 isPrologueNoise frame b =
     let m = mnemonicOf b in
     pick (eqb m push || eqb m pop) (registerFirst b && calleeSaved (operandRegister b 0))
-    (pick (eqb m sub || eqb m add) (registerFirst b && isSp (operandRegister b 0) && not (eqb (operandKind b 1) 0))
+    (pick (eqb m sub || eqb m add) (registerFirst b && isStackPointer (operandRegister b 0) && not (eqb (operandKind b 1) 0))
     (pick (eqb m mov) (registerFirst b && movesFrame frame b)
-    (pick (eqb m lea) (registerFirst b && isSp (operandRegister b 0))
+    (pick (eqb m lea) (registerFirst b && isStackPointer (operandRegister b 0))
     (padding m))))
 
 -- a jmp to a near branch
@@ -75,8 +47,8 @@ isSkipped frame b = eqb (skipMark b) 1 || isPrologueNoise frame b
 
 -- "Silent: skip-marked or prologue noise ..; cmp, test, push, cdq, cqo, cdqe, cwde; a direct jmp .."; the structure says which
 -- closing branch, loop test or last direct jmp has a line all the same
-unfoldable pub isQuiet : ℕ → List ℕ → Bool
-isQuiet frame b = isSkipped frame b || folded (mnemonicOf b) || isDirectJmp b
+unfoldable pub isSilentItself : ℕ → List ℕ → Bool
+isSilentItself frame b = isSkipped frame b || folded (mnemonicOf b) || isDirectJmp b
 
 -- how a block with this last instruction ends: 1 with a condition but no near branch, 2 with a condition and a near branch as
 -- first operand, 3 with a direct jmp, 0 otherwise

@@ -1,6 +1,6 @@
 // The rows of a record: eight numbers a block, two an edge, one an instruction, stored in lent lists.
 use crate::silent::ending_of;
-use crate::silent::is_quiet;
+use crate::silent::is_silent_itself;
 use lists::reads::from;
 use lists::stores::store;
 use lists::stores::store_u16;
@@ -23,7 +23,6 @@ use record::layout::targets_at;
 use record::search::Found;
 use record::search::search;
 ghost use mathlib.Core.Path.{_≡_};
-ghost use mathlib.Core.Bool.{true};
 ghost use mathlib.Core.List.{[], _∷_};
 ghost use Prim.Native.Nat.{_+_, _-_, _*_, _<_};
 ghost use lib.Dec.{eqb, leb};
@@ -34,7 +33,7 @@ ghost use Rattle.record.specs.Body.{operandNumber};
 ghost use Rattle.record.specs.Layout.{startsOf};
 ghost use Rattle.record.specs.Search.{findFrom};
 ghost use Rattle.x86.specs.Table.{isaBytes};
-ghost use Rattle.flow.specs.Silent.{isQuiet, endingOf};
+ghost use Rattle.flow.specs.Silent.{isSilentItself, endingOf};
 ghost use Rattle.flow.specs.Rows.{placeFound, placeOf, blockRows, edgeRows, shownRows};
 ghost use Rattle.flow.specs.Counted.{Counted, BlockHas, rowEnding};
 
@@ -179,9 +178,9 @@ pub fn edge_rows(rec: &[u8], h: Header, out: &mut [u16])
 // 1 for an instruction that is not silent by itself.
 fn shown_of(isa: &[u8], frame: u16, body: &[u8]) -> u8
     requires { ⌜ now isa ≡ isaBytes ⌝ }
-    ensures { λ r. ⌜ r ≡ pick (isQuiet frame (now (body .entry))) 0 1 ⌝ }
+    ensures { λ r. ⌜ r ≡ pick (isSilentItself frame (now (body .entry))) 0 1 ⌝ }
 {
-    if is_quiet(isa, frame, body) {
+    if is_silent_itself(isa, frame, body) {
         return 0;
     }
     1

@@ -5,12 +5,13 @@ use record::body::op_kind;
 use record::body::op_register;
 use record::body::skip_mark;
 use x86::registers::callee_saved;
+use x86::registers::is_stack_pointer;
 ghost use mathlib.Core.Path.{_≡_};
 ghost use mathlib.Core.Bool.{_||_};
 ghost use lib.Dec.{eqb};
 ghost use Prim.Native.Nat.{_≤_};
 ghost use Rattle.x86.specs.Table.{isaBytes};
-ghost use Rattle.flow.specs.Silent.{folded, padding, isSp, registerFirst, movesFrame, isPrologueNoise, isDirectJmp, isSkipped, isQuiet, endingOf};
+ghost use Rattle.flow.specs.Silent.{folded, padding, registerFirst, movesFrame, isPrologueNoise, isDirectJmp, isSkipped, isSilentItself, endingOf};
 
 fn either(m: u8, a: u8, b: u8) -> bool
     ensures { λ r. ⌜ r ≡ (eqb m a || eqb m b) ⌝ }
@@ -32,13 +33,6 @@ fn is_padding(m: u8) -> bool
     (41 <= m) & (m <= 45)
 }
 
-// esp and rsp.
-fn is_sp(r: u8) -> bool
-    ensures { λ b. ⌜ b ≡ isSp r ⌝ }
-{
-    (r == 0x44) | (r == 0x54)
-}
-
 fn register_first(body: &[u8]) -> bool
     ensures { λ r. ⌜ r ≡ registerFirst (now (body .entry)) ⌝ }
 {
@@ -50,8 +44,11 @@ fn moves_frame(frame: u16, body: &[u8]) -> bool
     ensures { λ r. ⌜ r ≡ movesFrame frame (now (body .entry)) ⌝ }
 {
     let to = op_register(body, 0);
-    ((frame != 0) & (to as u16 == frame) & (op_kind(body, 1) == 0) & is_sp(op_register(body, 1)))
-        | is_sp(to)
+    ((frame != 0)
+        & (to as u16 == frame)
+        & (op_kind(body, 1) == 0)
+        & is_stack_pointer(op_register(body, 1)))
+        | is_stack_pointer(to)
 }
 
 // Saves and restores of the registers that a callee saves, moves of the stack pointer, and padding.
@@ -64,13 +61,15 @@ pub fn is_prologue_noise(isa: &[u8], frame: u16, body: &[u8]) -> bool
         return register_first(body) & callee_saved(isa, op_register(body, 0));
     }
     if either(m, 10, 9) {
-        return register_first(body) & is_sp(op_register(body, 0)) & (op_kind(body, 1) != 0);
+        return register_first(body)
+            & is_stack_pointer(op_register(body, 0))
+            & (op_kind(body, 1) != 0);
     }
     if m == 1 {
         return register_first(body) & moves_frame(frame, body);
     }
     if m == 5 {
-        return register_first(body) & is_sp(op_register(body, 0));
+        return register_first(body) & is_stack_pointer(op_register(body, 0));
     }
     is_padding(m)
 }
@@ -88,9 +87,9 @@ pub fn is_skipped(isa: &[u8], frame: u16, body: &[u8]) -> bool
     (skip_mark(body) == 1) | is_prologue_noise(isa, frame, body)
 }
 
-pub fn is_quiet(isa: &[u8], frame: u16, body: &[u8]) -> bool
+pub fn is_silent_itself(isa: &[u8], frame: u16, body: &[u8]) -> bool
     requires { ⌜ now isa ≡ isaBytes ⌝ }
-    ensures { λ r. ⌜ r ≡ isQuiet frame (now (body .entry)) ⌝ }
+    ensures { λ r. ⌜ r ≡ isSilentItself frame (now (body .entry)) ⌝ }
 {
     is_skipped(isa, frame, body) | is_folded(mnemonic(body)) | is_direct_jmp(body)
 }

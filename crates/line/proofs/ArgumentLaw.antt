@@ -3,7 +3,7 @@
 use mathlib.Core.Path.{_≡_, refl, sym, ap, _∙_, subst}
 use mathlib.Core.Bool.{Bool, true, false, _&&_, _||_, false≢true, or-false}
 use mathlib.Core.List.{List, [], _∷_, _++_}
-use Prim.Native.Nat.{ℕ, zero, suc, _+_, _-_, _/_, _^_, _≤_, _<_}
+use Prim.Native.Nat.{ℕ, zero, suc, _-_, _/_, _^_, _≤_, _<_}
 use native.Mathlib.Decide.{decLe, decLt, ℕ-discrete}
 use native.Mathlib.Nat.{not-suc-le-zero, le-of-suc-le-suc, zero-div}
 use native.Mathlib.Omega.{arith}
@@ -121,8 +121,8 @@ since-start bs = go (hasCall bs) refl
     go false e = rw (since-same bs e)
 
 -- a register's bit tells whether it was written since the last call
-bit-told : (bs : List (List ℕ)) (j : ℕ) → j < 16 → written (behind 0 bs) (qword j) ≡ wrote (qword j) (sinceCall bs)
-bit-told bs j q =
+bit-wrote : (bs : List (List ℕ)) (j : ℕ) → j < 16 → written (behind 0 bs) (qword j) ≡ wrote (qword j) (sinceCall bs)
+bit-wrote bs j q =
     ap (λ (m : ℕ). written m (qword j)) (since-start bs)
     ∙ over 0 j (sinceCall bs) q (since-none bs)
     ∙ ap (λ (t : Bool). wrote (qword j) (sinceCall bs) || t) (empty j)
@@ -184,11 +184,11 @@ module _ (convention : ℕ) (bs : List (List ℕ)) where
   abbrev mask : ℕ
   mask = behind 0 bs
 
-  register-told : (k : ℕ) → k < length rs → wrote (getD rs k 0) (sinceCall bs) ≡ written mask (getD rs k 0)
-  register-told k l =
+  register-wrote : (k : ℕ) → k < length rs → wrote (getD rs k 0) (sinceCall bs) ≡ written mask (getD rs k 0)
+  register-wrote k l =
       let w : getD rs k 0 / 16 ≡ 5 = arguments-qwords convention k l in
       let e : qword (getD rs k 0 - 80) ≡ getD rs k 0 = omega arith in
-      subst (λ (r : ℕ). wrote r (sinceCall bs) ≡ written mask r) e (sym (bit-told bs (getD rs k 0 - 80) (omega arith)))
+      subst (λ (r : ℕ). wrote r (sinceCall bs) ≡ written mask r) e (sym (bit-wrote bs (getD rs k 0 - 80) (omega arith)))
 
   pub prefix : Prefix convention (sinceCall bs) (registerArguments convention mask)
   unfolding registerArguments argumentCount
@@ -196,8 +196,8 @@ module _ (convention : ℕ) (bs : List (List ℕ)) where
     count = upToLast mask rs;
     ends = record {
       within = up-to mask rs;
-      last-written = λ k e. register-told k (omega (arith, up-to mask rs)) ∙ up-to-last mask rs k e;
-      none-behind = λ k g l. register-told k l ∙ up-to-behind mask rs k g l;
+      last-written = λ k e. register-wrote k (omega (arith, up-to mask rs)) ∙ up-to-last mask rs k e;
+      none-behind = λ k g l. register-wrote k l ∙ up-to-behind mask rs k g l;
     };
     tokens = refl;
   }

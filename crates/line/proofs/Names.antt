@@ -14,7 +14,6 @@ use Rattle.lists.specs.Bytes.{u8At}
 use Rattle.tokens.specs.Token.{Token, token, plainText}
 use Rattle.tokens.specs.Words.{words, wordToken}
 use Rattle.tokens.specs.Sheet.{Sheet, push, pushes, withPlain, asText}
-use Rattle.tokens.specs.SheetLaws.{pushes-append}
 use Rattle.tokens.specs.PlainLaws.{plain-pushes, pushes-plain}
 use Rattle.x86.specs.Mnemonics.{mnemonicName}
 use Rattle.record.specs.declared.header.Header.{Header}

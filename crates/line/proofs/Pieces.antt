@@ -1,14 +1,14 @@
 -- The tokens of each piece, as the code finds the piece by its number, and of a row of them.
 -- A number is one of a few, at which the piece computes; one turn of a row pushes the piece in front.
 use mathlib.Core.Path.{_≡_, refl, sym, ap, _∙_}
-use mathlib.Core.Bool.{Bool, true, false}
+use mathlib.Core.Bool.{true, false}
 use mathlib.Core.List.{List, [], _∷_, _++_, map}
-use Prim.Native.Nat.{ℕ, suc, _+_, _-_, _≤_, _<_}
+use Prim.Native.Nat.{ℕ, _+_, _-_, _≤_, _<_}
 use native.Mathlib.Numerals.{add-one}
 use native.Mathlib.Omega.{arith}
 use lib.ListN.{length, drop, getD, drop-of-length-le, List·getD-map, List·getD-eq-default}
 use lib.Seq.{drop-cons}
-use borrow.Author.Tests.{lt-ltb, le-ltb, eq-eqb, ne-eqb}
+use borrow.Author.Tests.{lt-ltb, le-ltb, ne-eqb}
 use Rattle.tokens.specs.Token.{Token, register}
 use Rattle.tokens.specs.Words.{wordToken, prefixed}
 use Rattle.tokens.specs.Sheet.{Sheet, pushes}
@@ -26,7 +26,7 @@ use Rattle.expressions.specs.Condition.{bodyOf, conditionTokens}
 use Rattle.expressions.specs.Arguments.{argumentTokens}
 use Rattle.line.specs.declared.print.Site.{Site}
 use Rattle.line.specs.Forms.{Piece, rows, rowOf}
-use Rattle.line.specs.Forms.Piece.{nought}
+use Rattle.line.specs.Forms.Piece.{zeros}
 use Rattle.line.specs.Codes.{specials, pieceOf, codes, codesOf, codes-are}
 use Rattle.line.specs.Print.{accumulatorToken, assemblyTokens, pieceTokens, piecesTokens}
 
@@ -53,9 +53,9 @@ module _ (h : Header) (s : List ℕ) (site : Site) (b : ℕ) where
   unfolding pieceOf pieceTokens
   is-word l = rw (lt-ltb b 102 l)
 
-  pub is-nought : b ≡ 137 → number false 0 ∷ [] ≡ pieceTokens h s site (pieceOf b)
+  pub is-zeros : b ≡ 137 → number false 0 ∷ [] ≡ pieceTokens h s site (pieceOf b)
   unfolding pieceOf pieceTokens
-  is-nought e = rw e
+  is-zeros e = rw e
 
   pub is-ones : b ≡ 138 → number true 1 ∷ [] ≡ pieceTokens h s site (pieceOf b)
   unfolding pieceOf pieceTokens
@@ -89,7 +89,7 @@ module _ (h : Header) (s : List ℕ) (site : Site) (b : ℕ) where
   unfolding pieceOf pieceTokens
   is-past l =
       let n : length specials ≤ b - 136 = omega arith in
-      rw (le-ltb b 102 (omega arith), le-ltb b 136 (omega arith), List·getD-eq-default specials nought n)
+      rw (le-ltb b 102 (omega arith), le-ltb b 136 (omega arith), List·getD-eq-default specials zeros n)
 
   -- t is the body of the site's instruction
   module _ (t : List ℕ) (p : t ≡ bodyOf h s (site .at)) where

@@ -1,15 +1,14 @@
 -- A planned line's form, its tokens, and the registers written behind it; one turn of a loop over lines.
--- The lines that are no instruction's are told by their number; each law takes what the callees ensure.
+-- The lines that are no instruction's are decoded by their number; each law takes what the callees ensure.
 use mathlib.Core.Path.{_≡_, refl, sym, ap, _∙_}
 use mathlib.Core.Bool.{Bool, false}
-use mathlib.Core.List.{List, [], _∷_, map}
-use Prim.Native.Nat.{ℕ, suc, _+_, _*_, _≤_, _<_}
+use mathlib.Core.List.{List, map}
+use Prim.Native.Nat.{ℕ, _+_, _*_, _≤_, _<_}
 use native.Mathlib.Numerals.{add-one}
-use native.Mathlib.Omega.{arith}
 use lib.ListN.{length, getD, drop, set, drop-of-length-le, List·getD-map, List·getD-eq-default}
 use lib.Seq.{drop-cons}
 use borrow.Author.Tests.{ne-eqb}
-use Rattle.lists.specs.Entries.{tab, entry}
+use Rattle.lists.specs.Entries.{entry}
 use Rattle.tokens.specs.Token.{Token}
 use Rattle.tokens.specs.Sheet.{Sheet, sheet, pushes, ahead, started}
 use Rattle.tokens.specs.Page.{Page, page, lineOn, linesOn}
@@ -19,12 +18,10 @@ use Rattle.record.specs.Layout.{bodiesOf}
 use Rattle.record.specs.Body.{bodyAt, mnemonicOf}
 use Rattle.structure.specs.Plan.{What}
 use Rattle.structure.specs.Plan.What.{insn-line}
-use Rattle.structure.specs.Graph.{firstIn}
 use Rattle.structure.specs.Reads.{whatIn, instructionIn, placeIn}
 use Rattle.flow.specs.Rows.{blockRows}
 use Rattle.expressions.specs.Condition.{bodyOf}
 use Rattle.expressions.specs.Arguments.{writtenAfter}
-use Rattle.line.specs.declared.print.Site.{Site}
 use Rattle.line.specs.Forms.{formOf, rowOf, insnForm, returnForm, returnsValue}
 use Rattle.line.specs.Lines.{whats, whatAt, lineIn}
 use Rattle.line.specs.Print.{piecesTokens, lineTokens, maskAfter, printed}

@@ -8,11 +8,11 @@ use lib.Dec.{eqb, ltb}
 use lib.ListN.{length, take, getD}
 use Rattle.lists.specs.Choice.{pick}
 use Rattle.tokens.specs.Token.{Token}
+use Rattle.x86.specs.Mnemonics.{call}
 use Rattle.x86.specs.Registers.{fullRegister}
 use Rattle.x86.specs.Conventions.{argumentRegisters}
 use Rattle.record.specs.declared.header.Header.{Header}
 use Rattle.record.specs.Body.{mnemonicOf, operandCount, operandKind, operandRegister}
-use Rattle.flow.specs.Silent.{call}
 use Rattle.structure.specs.Plan.{What, Line}
 use Rattle.structure.specs.Plan.What.{label-line, do-line, open-line, if-goto, while-line, close-line, goto-line, tail-call, insn-line}
 use Rattle.expressions.specs.Condition.{bodyOf}

@@ -3,7 +3,7 @@
 use mathlib.Core.Path.{_≡_, refl, ap}
 use mathlib.Core.Bool.{Bool, true, false}
 use mathlib.Core.List.{List, [], _∷_, _++_, map}
-use Prim.Native.Nat.{ℕ, zero, suc, _+_, _-_, _*_, _^_, _≤_}
+use Prim.Native.Nat.{ℕ, zero, suc, _+_, _*_, _^_, _≤_}
 use native.Mathlib.Omega.{arith}
 use lib.Dec.{leb, leb→le, eqb}
 use lib.IntN.{natAbs}
@@ -26,7 +26,7 @@ use Rattle.expressions.specs.Condition.{bodyOf}
 use Rattle.expressions.specs.Bounds.{comma-within, body-bytes, operand-within, condition-within, arguments-within}
 use Rattle.line.specs.declared.print.Site.{Site}
 use Rattle.line.specs.Forms.{Piece, rows, rowOf, formOf}
-use Rattle.line.specs.Forms.Piece.{fixed, op, address, nought, ones, condition, negated, arguments, target, start, accumulator, assembly}
+use Rattle.line.specs.Forms.Piece.{fixed, op, address, zeros, ones, condition, negated, arguments, target, start, accumulator, assembly}
 use Rattle.line.specs.Print.{lengthFrom, nameLength, insnName, assembled, assemblyTokens, pieceTokens, piecesTokens, siteOf, lineTokens, maskAfter, printed}
 
 -- tokens made Text
@@ -55,7 +55,7 @@ abbrev most : Piece → ℕ
 most (fixed t) = 1 + length (t .bytes)
 most (op k) = 487
 most address = 487
-most nought = 19
+most zeros = 19
 most ones = 19
 most condition = 1002
 most negated = 1002
@@ -96,7 +96,7 @@ module _ (h : Header) (s : List ℕ) (ss : AllBytes s) (shift : natAbs (h .shift
   piece-within c l (fixed t) = more _ _ (one t (length (t .bytes)) (omega arith)) (omega arith) (omega arith)
   piece-within c l (op k) = more _ _ (operand-within h s ss shift (c .at) k) (omega arith) (omega arith)
   piece-within c l address = more _ _ (mem-within h s (bodyOf h s (c .at)) ss (body-bytes h s ss (c .at)) shift false) (omega arith) (omega arith)
-  piece-within c l nought = more _ _ (number-within false 0 (omega arith)) (omega arith) (omega arith)
+  piece-within c l zeros = more _ _ (number-within false 0 (omega arith)) (omega arith) (omega arith)
   piece-within c l ones = more _ _ (number-within true 1 (omega arith)) (omega arith) (omega arith)
   piece-within c l condition = more _ _ (condition-within h s ss shift (c .first) (c .at) (conditionOf (bodyOf h s (c .at)))) (omega arith) (omega arith)
   piece-within c l negated = more _ _ (condition-within h s ss shift (c .first) (c .at) (negate (conditionOf (bodyOf h s (c .at))))) (omega arith) (omega arith)

@@ -19,7 +19,7 @@ use Rattle.tokens.specs.Token.{Token, token, punct, plainText, keyword, registe
 use Rattle.tokens.specs.Words.{words, wordToken, prefixed}
 use Rattle.tokens.specs.Listing.{run, join}
 use Rattle.x86.specs.Registers.{registerNames, registerName}
-use Rattle.x86.specs.Mnemonics.{mnemonicNames, mnemonicName, writesFlags}
+use Rattle.x86.specs.Mnemonics.{dec, cmp, mnemonicNames, mnemonicName, writesFlags}
 use Rattle.x86.specs.Conditions.{conditionNames, conditionName, operatorText, relationAfterCmp, relationAfterOther, printsUnsigned, negate}
 use Rattle.record.specs.declared.header.Header.{Header}
 use Rattle.record.specs.Layout.{bodiesAt}
@@ -30,10 +30,11 @@ use Rattle.operand.specs.Operand.{signedRead, immediateNumber, immediate, opTok
 use Rattle.expressions.specs.Condition.{flagWriter, afterWriter, conditionTokens}
 use Rattle.record.specs.Blocks.{firstInstruction, firstEdge}
 use Rattle.structure.specs.Graph.{closesLoop, hasEdge, endingIn, singleEntry, escapes as leaves, outsideJump}
+use Rattle.structure.specs.Tree.{treeOf, treeGo}
 use Rattle.record.specs.Search.{findFrom, lastFrom}
 use Rattle.structure.specs.Shape.{shapeAt, lastLoop, regionAt, opensRegion}
-use Rattle.structure.specs.Plan.{rangeLines, rangeGo, plainLines, shownLines, bodyCount, closingLines, loopLines, flatLines, flatBlock, testBlock}
-use Rattle.flow.specs.Silent.{isQuiet, isPrologueNoise, endingOf}
+use Rattle.structure.specs.Plan.{rangeLines, treeLines, plainLines, shownLines, bodyCount, closingLines, loopLines, flatLines, flatBlock, testBlock}
+use Rattle.flow.specs.Silent.{isSilentItself, isPrologueNoise, endingOf}
 use Rattle.flow.specs.Rows.{rowsFrom, blockRow, edgeRow, shownRow, blockEnding, blockBranch, placeOf, blockRows, edgeRows, shownRows}
 use Rattle.flow.specs.Planned.{recordPlan}
 use Rattle.expressions.specs.Arguments.{writtenAfter}
@@ -162,13 +163,13 @@ case-f =
 abbrev case-g : List Case
 case-g = row (alone 32 0x45 0 (pos 0) (memoryOf 0x45 0 1 4 0xFFFFFFF8)) (register "arg_FFFFFFF8" ∷ []) ∷ []
 
--- "(h) cmp eax,5 then jb `(unsigned)eax < 5`": cmp is 38, eax 0x40, the immediate of kind 5; jb is another mnemonic, with condition 3
+-- "(h) cmp eax,5 then jb `(unsigned)eax < 5`": eax is 0x40, the immediate of kind 5; jb is another mnemonic, with condition 3
 abbrev case-h : List Case
 case-h =
     let h : Header = header 64 0 0 (pos 0) 2 0 in
-    let cmp : List ℕ = body 38 0 2 0 (slot 0 0x40 0 ++ (slot 5 0 5 ++ replicate 54 0)) in
-    let jb : List ℕ = body 0 3 1 0 (slot 2 0 0x1000 ++ (replicate 40 0 ++ ascii "jb")) in
-    row (piece h (replicate (bodiesAt h) 0 ++ (cmp ++ jb)) 1 condition)
+    let first : List ℕ = body cmp 0 2 0 (slot 0 0x40 0 ++ (slot 5 0 5 ++ replicate 54 0)) in
+    let second : List ℕ = body 0 3 1 0 (slot 2 0 0x1000 ++ (replicate 40 0 ++ ascii "jb")) in
+    row (piece h (replicate (bodiesAt h) 0 ++ (first ++ second)) 1 condition)
     (keyword "(unsigned)" ∷ register "eax" ∷ punct " < " ∷ numeral "5" ∷ [])
     ∷ []
 
@@ -184,11 +185,11 @@ case-i =
 abbrev case-j : List Case
 case-j =
     let h : Header = record { bits = 64; convention = 0; blocks = 1; instructions = 2; edges = 2; atlas = 0; spans = 0; frame = 0; shift = pos 0; shifted = 0; indent = 0; text = 0 } in
-    let dec : List ℕ = body 17 0 1 0 (slot 0 0x40 0 ++ replicate 64 0) in
-    let jne : List ℕ = body 0 6 1 0 (slot 2 0 0x1000 ++ (replicate 40 0 ++ ascii "jne" ++ replicate 21 0)) in
+    let first : List ℕ = body dec 0 1 0 (slot 0 0x40 0 ++ replicate 64 0) in
+    let second : List ℕ = body 0 6 1 0 (slot 2 0 0x1000 ++ (replicate 40 0 ++ ascii "jne" ++ replicate 21 0)) in
     let flow : List ℕ = bytes 8 0x1000 ++ (2 ∷ 0 ∷ 2 ∷ 1 ∷ bytes 8 0x1000 ++ (bytes 8 0x1008 ++ (1 ∷ 2 ∷ []))) in
     record {
-      asked = whole h (replicate 24 0 ++ (flow ++ (replicate 16 0 ++ (dec ++ jne))));
+      asked = whole h (replicate 24 0 ++ (flow ++ (replicate 16 0 ++ (first ++ second))));
       expected =
           (register "eax" ∷ punct "--;" ∷ [])
           ∷ (keyword "if" ∷ punct " (" ∷ register "eax" ∷ punct " != " ∷ numeral "0" ∷ punct ") " ∷ keyword "goto" ∷ plainText " " ∷ place "loc_1000" ∷ punct ";" ∷ [])
@@ -215,7 +216,7 @@ hex l (suc k) v h =
     ]
 
 pub all-print : map shown cases ≡ map (λ (c : Case). c .expected) cases
-unfolding cases join run printed lineTokens piecesTokens rowOf rows insnForm plainForm returnsValue recordPlan blockRows edgeRows edgeRow shownRows shownRow rowsFrom blockRow firstInstruction firstEdge blockEnding blockBranch endingOf placeOf findFrom isQuiet isPrologueNoise rangeLines rangeGo shapeAt lastLoop lastFrom closesLoop hasEdge endingIn regionAt opensRegion singleEntry leaves outsideJump plainLines shownLines bodyCount closingLines loopLines flatLines flatBlock testBlock negate relationAfterOther writtenAfter pieceTokens opTokens immediate immediateNumber signedRead memTokens memExpr addressExpr displacement slotToken isSlot slotNumber slotBase nameOr entryAt entryToken textStart inSpan prefixed wordToken words numText sign sizeText hexOf digit registerName registerNames literalText opening closing escapes escape letter conditionTokens flagWriter afterWriter writesFlags mnemonicName mnemonicNames conditionName conditionNames operatorText relationAfterCmp printsUnsigned
+unfolding cases join run printed lineTokens piecesTokens rowOf rows insnForm plainForm returnsValue recordPlan blockRows edgeRows edgeRow shownRows shownRow rowsFrom blockRow firstInstruction firstEdge blockEnding blockBranch endingOf placeOf findFrom isSilentItself isPrologueNoise rangeLines treeLines treeOf treeGo shapeAt lastLoop lastFrom closesLoop hasEdge endingIn regionAt opensRegion singleEntry leaves outsideJump plainLines shownLines bodyCount closingLines loopLines flatLines flatBlock testBlock negate relationAfterOther writtenAfter pieceTokens opTokens immediate immediateNumber signedRead memTokens memExpr addressExpr displacement slotToken isSlot slotNumber slotBase nameOr entryAt entryToken textStart inSpan prefixed wordToken words numText sign sizeText hexOf digit registerName registerNames literalText opening closing escapes escape letter conditionTokens flagWriter afterWriter writesFlags mnemonicName mnemonicNames conditionName conditionNames operatorText relationAfterCmp printsUnsigned
 all-print =
     rw (
       hex false 0 10 (omega arith),

@@ -1,22 +1,21 @@
 -- The rows of pieces as the code's table has them: a fixed word by its number, other pieces by numbers from 128 on.
 use Prim.Native.Nat.{ℕ, _-_}
-use mathlib.Core.List.{List, [], _∷_, _++_}
+use mathlib.Core.List.{List, [], _∷_, _++_, map}
 use mathlib.Core.Path.{_≡_, refl}
-use mathlib.Core.List.{map}
 use lib.Dec.{ltb}
 use lib.ListN.{getD, length, replicate}
 use Rattle.lists.specs.Choice.{pick}
 use Rattle.tokens.specs.Words.{wordToken, words}
 use Rattle.line.specs.Forms.{Piece, reg, loc, sub, rows}
-use Rattle.line.specs.Forms.Piece.{fixed, op, address, nought, ones, condition, negated, arguments, start, accumulator, assembly}
+use Rattle.line.specs.Forms.Piece.{fixed, op, address, zeros, ones, condition, negated, arguments, start, accumulator, assembly}
 
 -- the pieces from 136 on
 abbrev pub specials : List Piece
-specials = address ∷ nought ∷ ones ∷ condition ∷ negated ∷ arguments ∷ loc ∷ sub ∷ start ∷ accumulator ∷ assembly ∷ reg "rax" ∷ reg "eax" ∷ reg "ecx" ∷ []
+specials = address ∷ zeros ∷ ones ∷ condition ∷ negated ∷ arguments ∷ loc ∷ sub ∷ start ∷ accumulator ∷ assembly ∷ reg "rax" ∷ reg "eax" ∷ reg "ecx" ∷ []
 
 -- the piece that a number stands for: a word below 102, operand 0 to 7 from 128 on
 unfoldable pub pieceOf : ℕ → Piece
-pieceOf b = pick (ltb b 102) (fixed (wordToken b)) (pick (ltb b 136) (op (b - 128)) (getD specials (b - 136) nought))
+pieceOf b = pick (ltb b 102) (fixed (wordToken b)) (pick (ltb b 136) (op (b - 128)) (getD specials (b - 136) zeros))
 
 unfoldable pub codes : List (List ℕ)
 codes =
@@ -79,9 +78,9 @@ unfoldable pub codesOf : ℕ → List ℕ
 codesOf form = getD codes form []
 
 -- the code's table: 16 bytes a row, its length, its pieces and zeros
-abbrev pub packed : List (List ℕ) → List ℕ
-packed [] = []
-packed (r ∷ rs) = length r ∷ r ++ (replicate (15 - length r) 0 ++ packed rs)
+abbrev pub packedRows : List (List ℕ) → List ℕ
+packedRows [] = []
+packedRows (r ∷ rs) = length r ∷ r ++ (replicate (15 - length r) 0 ++ packedRows rs)
 
 unfoldable pub rowBytes : List ℕ
-rowBytes = packed codes
+rowBytes = packedRows codes

@@ -1,12 +1,13 @@
 -- The forms of lines: rows of pieces, and which form a line has.
-use Prim.Native.Nat.{ℕ, zero, suc, _+_, _-_, _%_}
+use Prim.Native.Nat.{ℕ, _+_, _-_, _%_}
 use Prim.Native.String.{String}
-use mathlib.Core.Bool.{Bool, true, false, not, _&&_, _||_}
-use mathlib.Core.List.{List, [], _∷_, _++_}
+use mathlib.Core.Bool.{Bool, _&&_, _||_}
+use mathlib.Core.List.{List, [], _∷_}
 use lib.Dec.{eqb, leb, ltb}
 use lib.ListN.{getD}
 use Rattle.lists.specs.Choice.{pick, anyBelow}
 use Rattle.tokens.specs.Token.{Token, punct, plainText, keyword, register}
+use Rattle.x86.specs.Mnemonics as mnemonic
 use Rattle.x86.specs.Registers.{fullRegister, registerSize}
 use Rattle.record.specs.declared.header.Header.{Header}
 use Rattle.record.specs.Layout.{bodiesOf}
@@ -23,7 +24,7 @@ pub data Piece : Type 0 where
   fixed : Token → Piece
   op : ℕ → Piece
   address : Piece
-  nought : Piece
+  zeros : Piece
   ones : Piece
   condition : Piece
   negated : Piece
@@ -60,7 +61,7 @@ rows =
     ∷ (op 0 ∷ p " = " ∷ kw "(int32_t)" ∷ op 1 ∷ p ";" ∷ [])
     ∷ (op 0 ∷ p " = " ∷ kw "(int64_t)" ∷ op 1 ∷ p ";" ∷ [])
     ∷ (op 0 ∷ p " = " ∷ address ∷ p ";" ∷ [])
-    ∷ (op 0 ∷ p " = " ∷ nought ∷ p ";" ∷ [])
+    ∷ (op 0 ∷ p " = " ∷ zeros ∷ p ";" ∷ [])
     ∷ (op 0 ∷ p " = " ∷ ones ∷ p ";" ∷ [])
     ∷ (op 0 ∷ p " += " ∷ op 1 ∷ p ";" ∷ [])
     ∷ (op 0 ∷ p " -= " ∷ op 1 ∷ p ";" ∷ [])
@@ -108,11 +109,11 @@ rows =
 unfoldable pub rowOf : ℕ → List Piece
 rowOf form = getD rows form []
 
--- which cast a movzx (2) or movsx, movsxd (3, 4) prints: by whether the first operand is 4 bytes wide
+-- which cast a movzx, or a movsx or movsxd, prints: by whether the first operand is 4 bytes wide
 unfoldable pub castForm : ℕ → List ℕ → ℕ
 castForm m b =
     let narrow = eqb (registerSize (operandRegister b 0)) 4 in
-    pick (eqb m 2) (pick narrow 1 2) (pick narrow 3 4)
+    pick (eqb m mnemonic.movzx) (pick narrow 1 2) (pick narrow 3 4)
 
 -- `xor x, x` with two operands, both the same register
 abbrev pub isXorSelf : List ℕ → Bool
@@ -155,14 +156,14 @@ plainForms = 39 ∷ 0 ∷ 39 ∷ 39 ∷ 39 ∷ 5 ∷ 12 ∷ 10 ∷ 11 ∷ 8 ∷ 
     ∷ 39 ∷ 39 ∷ 39 ∷ 31 ∷ 32 ∷ 33 ∷ 39 ∷ 36 ∷ 37 ∷ 39 ∷ 39 ∷ 39 ∷ 39 ∷ 38 ∷ 38 ∷ []
 
 unfoldable pub plainForm : ℕ → ℕ
-plainForm m = pick (ltb m 38) (getD plainForms m 0) 39
+plainForm m = pick (ltb m mnemonic.cmp) (getD plainForms m 0) 39
 
--- xor 6, and 7, or 8, where the operands may make it the store of a constant
+-- xor, and, or, where the operands may make it the store of a constant
 unfoldable pub logicForm : ℕ → List ℕ → ℕ
 logicForm m b =
-    pick (eqb m 6 && isXorSelf b) 6
-    (pick (eqb m 7 && isAndZero b) 6
-    (pick (eqb m 8 && isOrOnes b) 7 (plainForm m)))
+    pick (eqb m mnemonic.xor && isXorSelf b) 6
+    (pick (eqb m mnemonic.and && isAndZero b) 6
+    (pick (eqb m mnemonic.or && isOrOnes b) 7 (plainForm m)))
 
 -- ret, with a value or without
 unfoldable pub returnForm : Bool → ℕ
@@ -176,26 +177,26 @@ jumpForm b = pick (eqb (operandKind b 0) 1) 29 30
 unfoldable pub insnForm : Bool → List ℕ → ℕ
 insnForm value b =
     let m = mnemonicOf b in
-    pick (leb 2 m && leb m 4) (castForm m b)
-    (pick (eqb m 20) (imulForm (operandCount b))
-    (pick (eqb m 23) (callForm b)
-    (pick (eqb m 24) (returnForm value)
-    (pick (eqb m 25) (jumpForm b)
-    (pick (eqb m 29) (xchgForm b)
-    (pick (leb 6 m && leb m 8) (logicForm m b)
+    pick (leb mnemonic.movzx m && leb m mnemonic.movsxd) (castForm m b)
+    (pick (eqb m mnemonic.imul) (imulForm (operandCount b))
+    (pick (eqb m mnemonic.call) (callForm b)
+    (pick (eqb m mnemonic.ret) (returnForm value)
+    (pick (eqb m mnemonic.jmp) (jumpForm b)
+    (pick (eqb m mnemonic.xchg) (xchgForm b)
+    (pick (leb mnemonic.xor m && leb m mnemonic.or) (logicForm m b)
     (plainForm m)))))))
 
 -- an instruction that leaves a value in the accumulator: its first operand is a part of rax (0x50), or it is a call
 unfoldable pub leavesValue : List ℕ → Bool
 leavesValue b =
     (ltb 0 (operandCount b) && eqb (operandKind b 0) 0 && eqb (fullRegister (operandRegister b 0)) 0x50)
-    || eqb (mnemonicOf b) 23
+    || eqb (mnemonicOf b) mnemonic.call
 
 -- instruction i - 1 - k is of the block whose first instruction is `first`, and leaves a value; the part given begins at the bodies
 unfoldable pub valueBefore : List ℕ → ℕ → ℕ → ℕ → Bool
 valueBefore bodies first i k = ltb (first + k) i && leavesValue (bodyAt bodies (i - 1 - k))
 
--- ret: "with or without value (the six instructions before it)", in its block
+-- ret: with a value if one of the six instructions before it, in its block, leaves one
 unfoldable pub returnsValue : List ℕ → ℕ → ℕ → Bool
 returnsValue bodies first i = anyBelow (valueBefore bodies first i) 6
 

@@ -7,7 +7,7 @@ use lib.ListN.{getD}
 use Rattle.structure.specs.Plan.{What, Line, line, whatNumber, codeOf}
 use Rattle.structure.specs.Plan.What.{label-line, do-line, open-line, if-goto, while-line, close-line, goto-line, tail-call, insn-line}
 use Rattle.structure.specs.Placed.{Placed}
-use Rattle.structure.specs.Reads.{whatIn, instructionIn, placeIn, indentIn, Told, told}
+use Rattle.structure.specs.Reads.{whatIn, instructionIn, placeIn, indentIn, Decoded, decoded}
 
 -- what a line is, by its number: 8, and any further one, an instruction
 abbrev pub whats : List What
@@ -35,9 +35,9 @@ what-again insn-line = refl
 pub line-again : (l : Line) → l .at < 65536 → l .place < 65536 → lineIn (codeOf l) ≡ l
 unfolding lineIn
 line-again l p q =
-    let t : Told l = told l p q in
-    let w : whatAt (whatIn (codeOf l)) ≡ l .what = ap whatAt (t .what-told) ∙ what-again (l .what) in
-    rw (w, t .place-told, t .instruction-told, t .indent-told)
+    let t : Decoded l = decoded l p q in
+    let w : whatAt (whatIn (codeOf l)) ≡ l .what = ap whatAt (t .what-is) ∙ what-again (l .what) in
+    rw (w, t .place-is, t .instruction-is, t .indent-is)
 
 -- the codes of a plan give back its lines
 pub lines-again : (m n : ℕ) (ls : List Line) → m ≤ 65536 → n < 65536 → Placed m n ls → map lineIn (map codeOf ls) ≡ ls

@@ -1,12 +1,12 @@
 -- The tokens of a line, and of the lines of a plan.
-use Prim.Native.Nat.{ℕ, zero, suc, _+_, _-_}
+use Prim.Native.Nat.{ℕ, zero, suc}
 use mathlib.Core.Bool.{Bool, true, false}
 use mathlib.Core.List.{List, [], _∷_, _++_, map}
 use lib.Dec.{eqb}
 use lib.ListN.{take}
 use Rattle.lists.specs.Choice.{pick}
 use Rattle.lists.specs.Bytes.{u8At}
-use Rattle.tokens.specs.Token.{Token, token, punct, plainText, register}
+use Rattle.tokens.specs.Token.{Token, token, plainText, register}
 use Rattle.tokens.specs.Sheet.{asText}
 use Rattle.tokens.specs.Words.{prefixed}
 use Rattle.x86.specs.Mnemonics.{mnemonicName}
@@ -26,7 +26,7 @@ use Rattle.expressions.specs.Condition.{bodyOf, conditionTokens}
 use Rattle.expressions.specs.Arguments.{argumentTokens, writtenAfter, commaIf}
 use Rattle.line.specs.declared.print.Site.{Site}
 use Rattle.line.specs.Forms.{Piece, formOf, rowOf}
-use Rattle.line.specs.Forms.Piece.{fixed, op, address, nought, ones, condition, negated, arguments, target, start, accumulator, assembly}
+use Rattle.line.specs.Forms.Piece.{fixed, op, address, zeros, ones, condition, negated, arguments, target, start, accumulator, assembly}
 
 -- how many of the m bytes from k on stand before a zero, k of them counted already
 unfoldable pub lengthFrom : List ℕ → ℕ → ℕ → ℕ
@@ -59,7 +59,7 @@ module _ (h : Header) (s : List ℕ) where
   pieceTokens c (fixed t) = t ∷ []
   pieceTokens c (op k) = opTokens h s (bodyOf h s (c .at)) k
   pieceTokens c address = memTokens h s false (bodyOf h s (c .at))
-  pieceTokens c nought = number false 0 ∷ []
+  pieceTokens c zeros = number false 0 ∷ []
   pieceTokens c ones = number true 1 ∷ []
   pieceTokens c condition = conditionTokens h s (c .first) (c .at) (conditionOf (bodyOf h s (c .at)))
   pieceTokens c negated = conditionTokens h s (c .first) (c .at) (negate (conditionOf (bodyOf h s (c .at))))
@@ -83,7 +83,7 @@ module _ (h : Header) (s : List ℕ) where
     written = mask;
   }
 
-  -- "Exact tokens and kinds" of a line
+  -- the tokens of a line
   unfoldable pub lineTokens : ℕ → ℕ → Line → List Token
   lineTokens range mask l = piecesTokens (siteOf range mask l) (rowOf (formOf h s (l .what) (firstIn (blockRows h s) (l .place)) (l .at)))
 

@@ -18,7 +18,7 @@ ghost use mathlib.Core.Path.{_≡_};
 ghost use Rattle.x86.specs.Table.{isaBytes};
 ghost use Rattle.tokens.specs.Token.{token};
 ghost use Rattle.tokens.specs.Sheet.{sheet, pushes};
-ghost use Rattle.operand.specs.Lent.{Lent};
+ghost use Rattle.operand.specs.Tables.{Tables};
 ghost use Rattle.record.specs.Body.{operandCount};
 ghost use Rattle.line.specs.Print.{insnName, nameLength, assembled, assemblyTokens};
 
@@ -69,7 +69,7 @@ fn push_operands(
     h: Header,
     body: &[u8],
 ) -> Pen
-    requires { ⌜ Lent (now words) (now isa) h (now rec) ⌝ }
+    requires { ⌜ Tables (now words) (now isa) h (now rec) ⌝ }
     ensures { λ r. ⌜ sheet (now (text .exit)) (now (ends .exit)) (now (kinds .exit)) r
         ≡ pushes (sheet (now (text .entry)) (now (ends .entry)) (now (kinds .entry)) pen) (assembled h (now (rec .entry)) (now (body .entry)) false 0 (operandCount (now (body .entry)))) ⌝ }
 {
@@ -95,7 +95,7 @@ pub fn assembly(
     h: Header,
     body: &[u8],
 ) -> Pen
-    requires { ⌜ Lent (now words) (now isa) h (now rec) ⌝ }
+    requires { ⌜ Tables (now words) (now isa) h (now rec) ⌝ }
     requires { ⌜ pen .plain ≡ false ⌝ }
     ensures { λ r. ⌜ sheet (now (text .exit)) (now (ends .exit)) (now (kinds .exit)) r
         ≡ pushes (sheet (now (text .entry)) (now (ends .entry)) (now (kinds .entry)) pen) (assemblyTokens h (now (rec .entry)) (now (body .entry))) ⌝ }

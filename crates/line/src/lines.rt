@@ -25,8 +25,7 @@ ghost use mathlib.Core.Path.{_≡_};
 ghost use Rattle.tokens.specs.Page.{page, lineOn, linesOn};
 ghost use Rattle.tokens.specs.Sheet.{sheet, pushes};
 ghost use Rattle.x86.specs.Table.{isaBytes};
-ghost use Rattle.operand.specs.Lent.{Lent};
-ghost use Rattle.structure.specs.Reads.{whatIn, instructionIn};
+ghost use Rattle.operand.specs.Tables.{Tables};
 ghost use Rattle.flow.specs.Rows.{blockRows};
 ghost use Rattle.line.specs.Codes.{rowBytes};
 ghost use Rattle.line.specs.Forms.{formOf};
@@ -76,7 +75,7 @@ pub fn print_line(
     mask: u16,
     code: u64,
 ) -> Pen
-    requires { ⌜ Lent (now words) (now isa) h (now rec) ⌝ }
+    requires { ⌜ Tables (now words) (now isa) h (now rec) ⌝ }
     requires { ⌜ now rows ≡ rowBytes ⌝ }
     requires { ⌜ now blocks ≡ blockRows h (now rec) ⌝ }
     requires { ⌜ pen .plain ≡ false ⌝ }
@@ -115,7 +114,7 @@ fn put_line(
     mask: u16,
     code: u64,
 ) -> Pen
-    requires { ⌜ Lent (now words) (now isa) h (now rec) ⌝ }
+    requires { ⌜ Tables (now words) (now isa) h (now rec) ⌝ }
     requires { ⌜ now rows ≡ rowBytes ⌝ }
     requires { ⌜ now blocks ≡ blockRows h (now rec) ⌝ }
     ensures { λ r. ⌜ page (now (lines .exit)) (now (text .exit)) (now (ends .exit)) (now (kinds .exit)) r
@@ -157,7 +156,7 @@ pub fn print_lines(
     range: u16,
     codes: &[u64],
 ) -> Pen
-    requires { ⌜ Lent (now words) (now isa) h (now rec) ⌝ }
+    requires { ⌜ Tables (now words) (now isa) h (now rec) ⌝ }
     requires { ⌜ now rows ≡ rowBytes ⌝ }
     requires { ⌜ now blocks ≡ blockRows h (now rec) ⌝ }
     ensures { λ r. ⌜ page (now (lines .exit)) (now (text .exit)) (now (ends .exit)) (now (kinds .exit)) r

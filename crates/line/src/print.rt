@@ -27,7 +27,7 @@ ghost use mathlib.Core.Path.{_≡_};
 ghost use Prim.Native.Nat.{_≤_, _<_, _-_};
 ghost use Rattle.tokens.specs.Sheet.{sheet, pushes};
 ghost use Rattle.x86.specs.Table.{isaBytes};
-ghost use Rattle.operand.specs.Lent.{Lent};
+ghost use Rattle.operand.specs.Tables.{Tables};
 ghost use Rattle.expressions.specs.Condition.{bodyOf};
 ghost use Rattle.line.specs.Codes.{rowBytes, pieceOf};
 ghost use Rattle.line.specs.Forms.{rowOf};
@@ -76,7 +76,7 @@ fn push_value(
     body: &[u8],
     piece: u8,
 ) -> Pen
-    requires { ⌜ Lent (now words) (now isa) h (now rec) ⌝ }
+    requires { ⌜ Tables (now words) (now isa) h (now rec) ⌝ }
     requires { ⌜ now body ≡ bodyOf h (now rec) (site .at) ⌝ }
     requires { ⌜ 136 ≤ piece ⌝ }
     requires { ⌜ piece < 139 ⌝ }
@@ -106,7 +106,7 @@ fn push_tested(
     body: &[u8],
     piece: u8,
 ) -> Pen
-    requires { ⌜ Lent (now words) (now isa) h (now rec) ⌝ }
+    requires { ⌜ Tables (now words) (now isa) h (now rec) ⌝ }
     requires { ⌜ now body ≡ bodyOf h (now rec) (site .at) ⌝ }
     requires { ⌜ 139 ≤ piece ⌝ }
     requires { ⌜ piece < 141 ⌝ }
@@ -158,7 +158,7 @@ fn push_named(
     body: &[u8],
     piece: u8,
 ) -> Pen
-    requires { ⌜ Lent (now words) (now isa) h (now rec) ⌝ }
+    requires { ⌜ Tables (now words) (now isa) h (now rec) ⌝ }
     requires { ⌜ now body ≡ bodyOf h (now rec) (site .at) ⌝ }
     requires { ⌜ 142 ≤ piece ⌝ }
     requires { ⌜ piece < 145 ⌝ }
@@ -210,7 +210,7 @@ fn push_fixed(
     site: Site,
     piece: u8,
 ) -> Pen
-    requires { ⌜ Lent (now words) (now isa) h (now rec) ⌝ }
+    requires { ⌜ Tables (now words) (now isa) h (now rec) ⌝ }
     requires { ⌜ 147 ≤ piece ⌝ }
     ensures { λ r. ⌜ sheet (now (text .exit)) (now (ends .exit)) (now (kinds .exit)) r
         ≡ pushes (sheet (now (text .entry)) (now (ends .entry)) (now (kinds .entry)) pen) (pieceTokens h (now (rec .entry)) site (pieceOf piece)) ⌝ }
@@ -241,7 +241,7 @@ fn push_late(
     body: &[u8],
     piece: u8,
 ) -> Pen
-    requires { ⌜ Lent (now words) (now isa) h (now rec) ⌝ }
+    requires { ⌜ Tables (now words) (now isa) h (now rec) ⌝ }
     requires { ⌜ now body ≡ bodyOf h (now rec) (site .at) ⌝ }
     requires { ⌜ pen .plain ≡ false ⌝ }
     requires { ⌜ 145 ≤ piece ⌝ }
@@ -271,7 +271,7 @@ fn push_special(
     body: &[u8],
     piece: u8,
 ) -> Pen
-    requires { ⌜ Lent (now words) (now isa) h (now rec) ⌝ }
+    requires { ⌜ Tables (now words) (now isa) h (now rec) ⌝ }
     requires { ⌜ now body ≡ bodyOf h (now rec) (site .at) ⌝ }
     requires { ⌜ pen .plain ≡ false ⌝ }
     requires { ⌜ 136 ≤ piece ⌝ }
@@ -375,7 +375,7 @@ pub fn push_row(
     site: Site,
     form: u8,
 ) -> Pen
-    requires { ⌜ Lent (now words) (now isa) h (now rec) ⌝ }
+    requires { ⌜ Tables (now words) (now isa) h (now rec) ⌝ }
     requires { ⌜ now rows ≡ rowBytes ⌝ }
     requires { ⌜ pen .plain ≡ false ⌝ }
     ensures { λ r. ⌜ sheet (now (text .exit)) (now (ends .exit)) (now (kinds .exit)) r

@@ -12,7 +12,7 @@ use Rattle.record.specs.Header.{headerOf, headerFits, fieldsOk, limitsOk}
 use Rattle.record.specs.Layout.{lengthOk}
 use Rattle.record.specs.Asked.{ask, orElse, sizesNo, marksAsked, startsAsked, edgeKindsAsked, bodiesAsked, atlasAsked, spansAsked, blocksNo, contentsNo, rangeNo, firstNo}
 use Rattle.flow.specs.Planned.{recordPlan}
-use Rattle.flow.specs.Bounds.{record-few}
+use Rattle.flow.proofs.Bounds.{record-few}
 use Rattle.pseudo.specs.Listed.{lineAddress, recordAddresses}
 use Rattle.pseudo.specs.Called.{Accepted, roomNo, sizes, callNo}
 use Rattle.pseudo.proofs.Calls.{limits, counted, in-range}

@@ -1,6 +1,6 @@
 -- Which of the cases of a memory operand, an immediate or an operand is meant.
 -- Each test that was made picks its case.
-use mathlib.Core.Path.{_≡_, refl, sym, ap, _∙_}
+use mathlib.Core.Path.{_≡_, sym, ap, _∙_}
 use mathlib.Core.Bool.{Bool, true, false, _&&_, _||_}
 use mathlib.Core.List.{List, [], _∷_}
 use Prim.Native.Nat.{ℕ, _^_, _%_, _≤_, _<_}
@@ -16,7 +16,7 @@ use Rattle.lists.specs.Choice.{pick}
 use Rattle.lists.specs.Signed.{i32Of, i64Of}
 use Rattle.lists.specs.SignedLaws.{i32-fits}
 use Rattle.text.specs.Number.{numText}
-use Rattle.tokens.specs.Token.{Token, token, plainText}
+use Rattle.tokens.specs.Token.{Token, token}
 use Rattle.tokens.specs.Words.{words, wordToken}
 use Rattle.record.specs.declared.header.Header.{Header}
 use Rattle.record.specs.Body.{operandKind, operandRegister, operandNumber}
@@ -25,7 +25,6 @@ use Rattle.operand.specs.Expr.{Expr, tight}
 use Rattle.operand.specs.Names.{nameOr, inSpan}
 use Rattle.operand.specs.Memory.{registerToken, number, isSegmentRead, isGlobal, isSlot, segmentRead, global, slotToken, addressOf, address, addressExpr, memExpr, memTokens}
 use Rattle.operand.specs.Operand.{signedRead, inWindow, immediateNumber, immediate, opTokens}
-use Rattle.operand.specs.Sized.{windowRead}
 use Rattle.operand.proofs.Integers.{i64-fits, wide}
 use Rattle.operand.proofs.Pushes.{yes-is, no-is}
 
@@ -41,80 +40,70 @@ made t u b p q = sym p ∙ q
 
 module _ (h : Header) (s b : List ℕ) (deref : Bool) where
   abbrev third : Expr
-  third = pick (isSlot h b) (tight (addressOf deref (slotToken h b))) (address h s deref b)
+  third = pick (isSlot h b) (tight (addressOf deref (slotToken h b))) (address h deref b)
 
   abbrev second : Expr
-  second = pick (isGlobal h s b) (tight (global h s deref b)) third
+  second = pick (isGlobal b) (tight (global h s deref b)) third
 
-  pub is-segment : isSegmentRead h s b ≡ true → segmentRead h s b ≡ memTokens h s deref b
+  pub is-segment : isSegmentRead b ≡ true → segmentRead b ≡ memTokens h s deref b
   unfolding memTokens memExpr
-  is-segment e = sym (ap (λ (x : Expr). x .tokens) (yes-of (isSegmentRead h s b) (tight (segmentRead h s b)) second e))
+  is-segment e = sym (ap (λ (x : Expr). x .tokens) (yes-of (isSegmentRead b) (tight (segmentRead b)) second e))
 
-  module _ (p : isSegmentRead h s b ≡ false) where
+  module _ (p : isSegmentRead b ≡ false) where
     others : memExpr h s deref b ≡ second
     unfolding memExpr
-    others = no-of (isSegmentRead h s b) (tight (segmentRead h s b)) second p
+    others = no-of (isSegmentRead b) (tight (segmentRead b)) second p
 
-    pub is-global : isGlobal h s b ≡ true → global h s deref b ≡ memTokens h s deref b
+    pub is-global : isGlobal b ≡ true → global h s deref b ≡ memTokens h s deref b
     unfolding memTokens
-    is-global e = sym (ap (λ (x : Expr). x .tokens) (others ∙ yes-of (isGlobal h s b) (tight (global h s deref b)) third e))
+    is-global e = sym (ap (λ (x : Expr). x .tokens) (others ∙ yes-of (isGlobal b) (tight (global h s deref b)) third e))
 
-    module _ (q : isGlobal h s b ≡ false) where
+    module _ (q : isGlobal b ≡ false) where
       pub is-slot : isSlot h b ≡ true → addressOf deref (slotToken h b) ≡ memTokens h s deref b
       unfolding memTokens
       is-slot e =
           sym (ap (λ (x : Expr). x .tokens)
-          (others ∙ (no-of (isGlobal h s b) (tight (global h s deref b)) third q ∙ yes-of (isSlot h b) (tight (addressOf deref (slotToken h b))) (address h s deref b) e)))
+          (others ∙ (no-of (isGlobal b) (tight (global h s deref b)) third q ∙ yes-of (isSlot h b) (tight (addressOf deref (slotToken h b))) (address h deref b) e)))
 
-      pub is-address : isSlot h b ≡ false → address h s deref b .tokens ≡ memTokens h s deref b
+      pub is-address : isSlot h b ≡ false → address h deref b .tokens ≡ memTokens h s deref b
       unfolding memTokens
       is-address e =
           sym (ap (λ (x : Expr). x .tokens)
-          (others ∙ (no-of (isGlobal h s b) (tight (global h s deref b)) third q ∙ no-of (isSlot h b) (tight (addressOf deref (slotToken h b))) (address h s deref b) e)))
+          (others ∙ (no-of (isGlobal b) (tight (global h s deref b)) third q ∙ no-of (isSlot h b) (tight (addressOf deref (slotToken h b))) (address h deref b) e)))
 
 -- read, or as an address
-pub is-read : (h : Header) (s b : List ℕ) (deref : Bool) → deref ≡ true → address h s true b .tokens ≡ address h s deref b .tokens
-is-read h s b deref e = rw e
+pub is-read : (h : Header) (b : List ℕ) (deref : Bool) → deref ≡ true → address h true b .tokens ≡ address h deref b .tokens
+is-read h b deref e = rw e
 
-pub is-plain : (h : Header) (s b : List ℕ) (deref : Bool) → deref ≡ false → addressExpr h b .tokens ≡ address h s deref b .tokens
-is-plain h s b deref e = rw e
+pub is-plain : (h : Header) (b : List ℕ) (deref : Bool) → deref ≡ false → addressExpr h b .tokens ≡ address h deref b .tokens
+is-plain h b deref e = rw e
 
--- the window is asked of a number that fits, and of no other than the definition's
-window-fits : (kind v : ℕ) → v < 2 ^ 64 → SFits w64 (windowRead kind v)
-unfolding windowRead
-window-fits kind v h = go (eqb kind 6 || eqb kind 9 || eqb kind 10) (eqb kind 5 || eqb kind 8)
+-- the window is asked of a number that fits
+read-fits : (kind v : ℕ) → v < 2 ^ 64 → SFits w64 (signedRead kind v)
+unfolding signedRead
+read-fits kind v h = go (eqb kind 6 || eqb kind 9 || eqb kind 10) (eqb kind 5 || eqb kind 8)
   where
     go : (a b : Bool) → SFits w64 (pick a (i64Of v) (pick b (i32Of (v % 4294967296)) (pos 0)))
     go true b = i64-fits v h
     go false true = wide _ (i32-fits (v % 4294967296) (mod-lt v (omega arith)))
     go false false = record { sfits = omega arith }
 
-window-same : (kind v : ℕ) → pick (inWindow (windowRead kind v)) (number true (natAbs (windowRead kind v))) (number false v) ≡ immediateNumber kind v
-unfolding windowRead immediateNumber signedRead
-window-same kind v = go (eqb kind 6 || eqb kind 9 || eqb kind 10) (eqb kind 5 || eqb kind 8)
-  where
-    by : ℤ → Token
-    by z = pick (inWindow z) (number true (natAbs z)) (number false v)
+module _ (kind v : ℕ) (z : ℤ) (w : Bool) (f : v < 2 ^ 64) (p : z ≡ signedRead kind v) (q : w ≡ inWindow (toZ w64 (ofZ w64 z))) where
+  back : toZ w64 (ofZ w64 z) ≡ signedRead kind v
+  back = rw p (toZ-ofZ w64 (signedRead kind v) (read-fits kind v f))
 
-    go : (a b : Bool) → by (pick a (i64Of v) (pick b (i32Of (v % 4294967296)) (pos 0))) ≡ by (pick a (i64Of v) (pick b (i32Of (v % 4294967296)) (pos v)))
-    go true b = refl
-    go false true = refl
-    go false false = refl
-
-module _ (kind v : ℕ) (z : ℤ) (w : Bool) (f : v < 2 ^ 64) (p : z ≡ windowRead kind v) (q : w ≡ inWindow (toZ w64 (ofZ w64 z))) where
-  back : toZ w64 (ofZ w64 z) ≡ windowRead kind v
-  back = rw p (toZ-ofZ w64 (windowRead kind v) (window-fits kind v f))
-
-  asked : w ≡ inWindow (windowRead kind v)
+  asked : w ≡ inWindow (signedRead kind v)
   asked = q ∙ ap inWindow back
 
   pub in-window : w ≡ true → (m : ℕ) → m ≡ natAbs (toZ w64 (ofZ w64 z)) → token 2 (numText true m) ≡ immediateNumber kind v
+  unfolding immediateNumber
   in-window e m r =
       ap (λ (n : ℕ). number true n) (r ∙ ap natAbs back)
-      ∙ (sym (yes-of (inWindow (windowRead kind v)) (number true (natAbs (windowRead kind v))) (number false v) (sym asked ∙ e)) ∙ window-same kind v)
+      ∙ sym (yes-of (inWindow (signedRead kind v)) (number true (natAbs (signedRead kind v))) (number false v) (sym asked ∙ e))
 
   pub not-in-window : w ≡ false → token 2 (numText false v) ≡ immediateNumber kind v
-  not-in-window e = sym (no-of (inWindow (windowRead kind v)) (number true (natAbs (windowRead kind v))) (number false v) (sym asked ∙ e)) ∙ window-same kind v
+  unfolding immediateNumber
+  not-in-window e = sym (no-of (inWindow (signedRead kind v)) (number true (natAbs (signedRead kind v))) (number false v) (sym asked ∙ e))
 
 module _ (h : Header) (s : List ℕ) (kind v : ℕ) where
   pub in-span : (leb 0x1000 v && inSpan h s v) ≡ true → nameOr h s v 96 ∷ [] ≡ immediate h s kind v ∷ []

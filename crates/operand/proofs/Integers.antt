@@ -6,13 +6,11 @@ use Prim.Native.Nat.{ℕ, suc, _+_, _-_, _^_, _≤_, _<_}
 use native.Mathlib.Decide.{decLt}
 use native.Mathlib.Omega.{arith}
 use borrow.Author.Tests.{lt-ltb, le-ltb, le-leb, lt-leb}
-use lib.Dec.{T}
 use lib.IntN.{ℤ, pos, negsuc, _+ℤ_, _-ℤ_, natAbs, subℕ}
 use lib.Signed.{ltZ, leZ}
 use mir.Syntax.{w32, w64}
-use mir.Val.{toZ, ofZ, SFits, Fits}
+use mir.Val.{toZ, ofZ, SFits}
 use mir.ValLaws.{toZ-ofZ}
-use Rattle.lists.specs.Choice.{pick}
 use Rattle.lists.specs.Signed.{i32Of, i64Of}
 use Rattle.lists.specs.SignedLaws.{i32-fits}
 use Rattle.operand.specs.declared.numbers.Sized.{Sized}
@@ -94,8 +92,8 @@ pub back32 : (y r : ℤ) (x : ℕ) → y ≡ toZ w32 (ofZ w32 r) → r ≡ i32Of
 back32 y r x d e h = wide-back y (i32Of x) (i32-fits x h) (d ∙ ap (λ (z : ℤ). toZ w32 (ofZ w32 z)) e)
 
 -- the sign of a number that was asked of what is read back
-pub told : (z : ℤ) (r b : Bool) → SFits w64 z → r ≡ isNegative (toZ w64 (ofZ w64 z)) → r ≡ b → isNegative z ≡ b
-told z r b s p q = ap isNegative (sym (toZ-ofZ w64 z s)) ∙ (sym p ∙ q)
+pub sign-is : (z : ℤ) (r b : Bool) → SFits w64 z → r ≡ isNegative (toZ w64 (ofZ w64 z)) → r ≡ b → isNegative z ≡ b
+sign-is z r b s p q = ap isNegative (sym (toZ-ofZ w64 z s)) ∙ (sym p ∙ q)
 
 -- x and y as they are read back are u and v
 module _ (x y u v : ℤ) (d : x ≡ u) (e : y ≡ v) (a b : ℕ) (p : a ≡ natAbs x) (q : b ≡ natAbs y) where

@@ -1,5 +1,5 @@
 -- Texts that are the same bytes, read one by one, and what an operand printed by itself leaves.
--- Both texts are told from a byte on; a printed text fits, so it stands at the list's front.
+-- Both texts are compared from a byte on; a printed text fits, so it stands at the list's front.
 use mathlib.Core.Path.{_≡_, refl, sym, ap, _∙_}
 use mathlib.Core.Bool.{Bool, true, false, _&&_, and-false}
 use mathlib.Core.List.{List, [], _∷_}
@@ -15,10 +15,10 @@ use Rattle.lists.specs.Put.{put}
 use Rattle.lists.specs.PutLaws.{put-fits}
 use Rattle.tokens.specs.Token.{Token}
 use Rattle.tokens.specs.Sheet.{Sheet, sheet, pushes, firstPen}
-use Rattle.tokens.specs.Listing.{textOf, join}
+use Rattle.tokens.specs.Listing.{textOf}
 use Rattle.tokens.specs.ListingLaws.{line-wrote, join-text}
 use Rattle.tokens.specs.declared.pen.Pen.{Pen}
-use Rattle.operand.specs.Alike.{sameBytes, Printed}
+use Rattle.operand.specs.Alike.{sameBytes, TextStored}
 
 -- the first n bytes of two lists from byte i on
 abbrev pub SameFrom : List ℕ → List ℕ → ℕ → ℕ → Type 0
@@ -52,22 +52,22 @@ other-lengths (x ∷ s) [] h = refl
 other-lengths (x ∷ s) (y ∷ t) h = rw (other-lengths s t (λ e. h (ap suc e)), and-false)
 
 -- two texts printed, each into a list of its own
-pub lengths-differ : {s t d e d′ e′ : List ℕ} {n m : ℕ} → Printed s d d′ n → Printed t e e′ m → (n ≡ m → ⊥) → false ≡ sameBytes s t
+pub lengths-differ : {s t d e d′ e′ : List ℕ} {n m : ℕ} → TextStored s d d′ n → TextStored t e e′ m → (n ≡ m → ⊥) → false ≡ sameBytes s t
 lengths-differ {s} {t} p q h = sym (other-lengths s t (λ x. h (p .count ∙ x ∙ sym (q .count))))
 
-printed-front : (t e e′ : List ℕ) (n : ℕ) → 640 ≤ length e → Printed t e e′ n → take n e′ ≡ t
-printed-front t e e′ n h p =
+stored-front : (t e e′ : List ℕ) (n : ℕ) → 640 ≤ length e → TextStored t e e′ n → take n e′ ≡ t
+stored-front t e e′ n h p =
     let f : length t ≤ length e = omega (arith, p .count, p .short) in
     rw (p .text, put-fits 0 t e (omega arith)) (take-at t _ n (sym (p .count)))
 
-pub fronts-same : {s t d e d′ e′ : List ℕ} {n m : ℕ} {r : Bool} → Printed s d d′ n → Printed t e e′ m → 640 ≤ length d → 640 ≤ length e → n ≡ m
+pub fronts-same : {s t d e d′ e′ : List ℕ} {n m : ℕ} {r : Bool} → TextStored s d d′ n → TextStored t e e′ m → 640 ≤ length d → 640 ≤ length e → n ≡ m
     → r ≡ sameBytes (take n d′) (take n e′) → r ≡ sameBytes s t
-fronts-same {s} {t} {d} {e} {d′} {e′} {n} {m} p q hd he h x = x ∙ rw (printed-front s d d′ n hd p, h, printed-front t e e′ m he q)
+fronts-same {s} {t} {d} {e} {d′} {e′} {n} {m} p q hd he h x = x ∙ rw (stored-front s d d′ n hd p, h, stored-front t e e′ m he q)
 
 -- tokens pushed by the first pen
-pub printed : (ts : List Token) (e e′ x x′ k k′ : List ℕ) (f r : Pen) → length (textOf ts) ≤ 640 → length ts ≤ 16 → f ≡ firstPen
-    → sheet e′ x′ k′ r ≡ pushes (sheet e x k f) ts → Printed (textOf ts) e e′ (r .text)
-printed ts e e′ x x′ k k′ f r short few first pushed =
+pub text-stored : (ts : List Token) (e e′ x x′ k k′ : List ℕ) (f r : Pen) → length (textOf ts) ≤ 640 → length ts ≤ 16 → f ≡ firstPen
+    → sheet e′ x′ k′ r ≡ pushes (sheet e x k f) ts → TextStored (textOf ts) e e′ (r .text)
+text-stored ts e e′ x x′ k k′ f r short few first pushed =
     let q = rw first at pushed in
     let j = join-text ts in
     let w = line-wrote (sheet e x k firstPen) ts (omega arith) (omega arith) in

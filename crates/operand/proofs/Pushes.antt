@@ -21,7 +21,8 @@ use Rattle.record.specs.declared.search.Found.{Found}
 use Rattle.record.specs.declared.search.Found.the-variants.{At, Nothing}
 use Rattle.operand.specs.Expr.{Expr, wrapIf, wrap}
 use Rattle.operand.specs.Names.{entryAt, entryToken, nameOrAt, nameOr, literalAt, isLiteral}
-use Rattle.operand.specs.Memory.{registerToken, number, typeWord, prefixWord, segmentWord, segmentRead, global, isSp, isNegative, slotBase, slotNumber, slotToken, addressOf, scaled, registers, displacement, addressExpr, address}
+use Rattle.x86.specs.Registers.{isStackPointer}
+use Rattle.operand.specs.Memory.{registerToken, number, typeWord, prefixWord, segmentWord, segmentRead, global, slotBase, slotNumber, slotToken, addressOf, scaled, registers, displacement, addressExpr, address}
 use Rattle.operand.specs.Sized.{sizedOf}
 
 -- a test of what was read
@@ -54,38 +55,44 @@ pub and-then : (S S₁ S₂ : Sheet) (t u : Token) → t ≡ u → S₁ ≡ push
 unfolding pushes wordToken words
 and-then S S₁ S₂ t u e a c = rw (← e) (next _ a c)
 
-module _ (h : Header) (b : List ℕ) where
-  pub scaled-loose : (n : ℕ) → n ≡ scaleOf b → ltb 1 n ≡ scaled h b .loose
+module _ (b : List ℕ) where
+  pub scaled-loose : (n : ℕ) → n ≡ scaleOf b → ltb 1 n ≡ scaled b .loose
   scaled-loose n p = rw p (go (ltb 1 (scaleOf b)))
     where
       go : (t : Bool) → t ≡ pick {A = Expr} t (record { tokens = registerToken (indexOf b) ∷ punct " * " ∷ number false (scaleOf b) ∷ []; loose = true }) (record { tokens = registerToken (indexOf b) ∷ []; loose = false }) .loose
       go true = refl
       go false = refl
 
-  pub slot-read : (n : Sized) (s w : ℕ) (k : Bool) → n ≡ sizedOf (slotNumber h b) → s ≡ slotBase h b → k ≡ isSp s → w ≡ pick (k || n .negative) 92 93
+  pub scaled-more : (S S₁ S₂ S₃ : Sheet) (i n : ℕ) → i ≡ indexOf b → n ≡ scaleOf b → 1 < n → S₁ ≡ pushes S (registerToken i ∷ []) → S₂ ≡ push S₁ (wordToken 8)
+      → S₃ ≡ push S₂ (token 2 (numText false n)) → S₃ ≡ pushes S (scaled b .tokens)
+  unfolding pushes wordToken words
+  scaled-more S S₁ S₂ S₃ i n p q t a c d = rw (← q, lt-ltb 1 n t, ← p) (next _ (next _ a c) d)
+
+  pub scaled-one : (S S₁ : Sheet) (i n : ℕ) → i ≡ indexOf b → n ≡ scaleOf b → n ≤ 1 → S₁ ≡ pushes S (registerToken i ∷ []) → S₁ ≡ pushes S (scaled b .tokens)
+  scaled-one S S₁ i n p q t a = rw (← q, le-ltb 1 n t, ← p) a
+
+  pub segment-pushed : (S S₁ S₂ : Sheet) (w m g v : ℕ) → g ≡ segmentOf b → m ≡ memorySize b → w ≡ segmentWord g m → S₁ ≡ push S (wordToken w) → v ≡ memoryAddress b
+      → S₂ ≡ pushes S₁ (punct "(" ∷ number false v ∷ punct ")" ∷ []) → S₂ ≡ pushes S (segmentRead b)
+  unfolding pushes
+  segment-pushed S S₁ S₂ w m g v p q r a e c = rw (← p, ← q, ← r, ← e) (chain S S₁ S₂ (wordToken w ∷ []) (punct "(" ∷ number false v ∷ punct ")" ∷ []) a c)
+
+module _ (h : Header) (b : List ℕ) where
+  pub slot-read : (n : Sized) (s w : ℕ) (k : Bool) → n ≡ sizedOf (slotNumber h b) → s ≡ slotBase h b → k ≡ isStackPointer s → w ≡ pick (k || n .negative) 92 93
       → prefixed w (n .size) ≡ slotToken h b
   unfolding slotToken
   slot-read n s w k p q r e = rw (e, r, q, p)
 
-  pub scaled-more : (S S₁ S₂ S₃ : Sheet) (i n : ℕ) → i ≡ indexOf b → n ≡ scaleOf b → 1 < n → S₁ ≡ pushes S (registerToken i ∷ []) → S₂ ≡ push S₁ (wordToken 8)
-      → S₃ ≡ push S₂ (token 2 (numText false n)) → S₃ ≡ pushes S (scaled h b .tokens)
-  unfolding pushes wordToken words
-  scaled-more S S₁ S₂ S₃ i n p q t a c d = rw (← q, lt-ltb 1 n t, ← p) (next _ (next _ a c) d)
-
-  pub scaled-one : (S S₁ : Sheet) (i n : ℕ) → i ≡ indexOf b → n ≡ scaleOf b → n ≤ 1 → S₁ ≡ pushes S (registerToken i ∷ []) → S₁ ≡ pushes S (scaled h b .tokens)
-  scaled-one S S₁ i n p q t a = rw (← q, le-ltb 1 n t, ← p) a
-
   pub base-only : (S S₁ : Sheet) (i s : ℕ) → s ≡ slotBase h b → i ≡ indexOf b → i ≡ 0 → S₁ ≡ pushes S (registerToken s ∷ []) → S₁ ≡ pushes S (registers h b .tokens)
   base-only S S₁ i s q p t a = rw (yes-is i (indexOf b) 0 p t, ← q) a
 
-  pub index-only : (S S₁ : Sheet) (i s : ℕ) → s ≡ slotBase h b → i ≡ indexOf b → (i ≡ 0 → ⊥) → s ≡ 0 → S₁ ≡ pushes S (scaled h b .tokens) → S₁ ≡ pushes S (registers h b .tokens)
+  pub index-only : (S S₁ : Sheet) (i s : ℕ) → s ≡ slotBase h b → i ≡ indexOf b → (i ≡ 0 → ⊥) → s ≡ 0 → S₁ ≡ pushes S (scaled b .tokens) → S₁ ≡ pushes S (registers h b .tokens)
   index-only S S₁ i s q p t u a = rw (no-is i (indexOf b) 0 p t, yes-is s (slotBase h b) 0 q u) a
 
   pub base-index : (S S₁ S₂ S₃ : Sheet) (i s : ℕ) → s ≡ slotBase h b → i ≡ indexOf b → (i ≡ 0 → ⊥) → (s ≡ 0 → ⊥) → S₁ ≡ pushes S (registerToken s ∷ [])
-      → S₂ ≡ push S₁ (wordToken 6) → S₃ ≡ pushes S₂ (wrap (scaled h b)) → S₃ ≡ pushes S (registers h b .tokens)
+      → S₂ ≡ push S₁ (wordToken 6) → S₃ ≡ pushes S₂ (wrap (scaled b)) → S₃ ≡ pushes S (registers h b .tokens)
   unfolding pushes wordToken words
   base-index S S₁ S₂ S₃ i s q p t u a c d =
-      rw (no-is i (indexOf b) 0 p t, no-is s (slotBase h b) 0 q u, ← q) (chain S S₂ S₃ (registerToken s ∷ wordToken 6 ∷ []) (wrap (scaled h b)) (next _ a c) d)
+      rw (no-is i (indexOf b) 0 p t, no-is s (slotBase h b) 0 q u, ← q) (chain S S₂ S₃ (registerToken s ∷ wordToken 6 ∷ []) (wrap (scaled b)) (next _ a c) d)
 
   pub no-displacement : (S S₁ : Sheet) (d : Sized) → d ≡ sizedOf (displacement h b) → d .size ≡ 0 → S₁ ≡ pushes S (registers h b .tokens) → S₁ ≡ pushes S (addressExpr h b .tokens)
   unfolding addressExpr
@@ -99,15 +106,10 @@ module _ (h : Header) (b : List ℕ) where
       rw (no-is (d .size) _ 0 (ap (λ (x : Sized). x .size) p) t, ← ap (λ (x : Sized). x .size) p, ← ap (λ (x : Sized). x .negative) p, ← e)
       (chain S S₁ S₃ (wrap (registers h b)) (wordToken w ∷ number false (d .size) ∷ []) a (two S₁ S₂ S₃ _ _ c f))
 
-  pub size-word : (S S₁ S₂ : Sheet) (w m : ℕ) (s : List ℕ) → m ≡ memorySize b → w ≡ typeWord m → S₁ ≡ push S (wordToken w) → S₂ ≡ pushes S₁ (wrap (addressExpr h b))
-      → S₂ ≡ pushes S (address h s true b .tokens)
+  pub size-word : (S S₁ S₂ : Sheet) (w m : ℕ) → m ≡ memorySize b → w ≡ typeWord m → S₁ ≡ push S (wordToken w) → S₂ ≡ pushes S₁ (wrap (addressExpr h b))
+      → S₂ ≡ pushes S (address h true b .tokens)
   unfolding pushes
-  size-word S S₁ S₂ w m s p q a c = rw (← p, ← q) (chain S S₁ S₂ (wordToken w ∷ []) (wrap (addressExpr h b)) a c)
-
-  pub segment-pushed : (S S₁ S₂ : Sheet) (w m g v : ℕ) (s : List ℕ) → g ≡ segmentOf b → m ≡ memorySize b → w ≡ segmentWord g m → S₁ ≡ push S (wordToken w) → v ≡ memoryAddress b
-      → S₂ ≡ pushes S₁ (punct "(" ∷ number false v ∷ punct ")" ∷ []) → S₂ ≡ pushes S (segmentRead h s b)
-  unfolding pushes
-  segment-pushed S S₁ S₂ w m g v s p q r a e c = rw (← p, ← q, ← r, ← e) (chain S S₁ S₂ (wordToken w ∷ []) (punct "(" ∷ number false v ∷ punct ")" ∷ []) a c)
+  size-word S S₁ S₂ w m p q a c = rw (← p, ← q) (chain S S₁ S₂ (wordToken w ∷ []) (wrap (addressExpr h b)) a c)
 
 -- a literal stands for an address where one was found
 literal-found : (h : Header) (s : List ℕ) (e : Found) (va : ℕ) → eqb (nameOrAt h s e va 101 .kind) 5 ≡ literalAt h s e

@@ -1,4 +1,4 @@
--- "TEST operands that print alike": the texts of two operands are the same bytes.
+-- TEST's "operands that print alike": the texts of two operands are the same bytes.
 use mathlib.Core.Path.{_≡_}
 use mathlib.Core.Bool.{Bool, true, false, _&&_}
 use mathlib.Core.List.{List, [], _∷_}
@@ -20,8 +20,8 @@ sameBytes (x ∷ xs) (y ∷ ys) = eqb x y && sameBytes xs ys
 unfoldable pub alike : Header → List ℕ → List ℕ → Bool
 alike h s b = sameBytes (textOf (opTokens h s b 0)) (textOf (opTokens h s b 1))
 
--- a text t of at most 640 bytes printed into a list e from its first byte on: the list is e′ then, and the text has n bytes
-pub record Printed (t e e′ : List ℕ) (n : ℕ) : Type 0 where
+-- a text t of at most 640 bytes stored in a list e from its first byte on: the list is e′ then, and the text has n bytes
+pub record TextStored (t e e′ : List ℕ) (n : ℕ) : Type 0 where
   pub text : e′ ≡ put 0 t e
   pub count : n ≡ length t
   pub short : n ≤ 640

@@ -1,9 +1,8 @@
 -- How long an operand can be: at most 14 tokens and 487 bytes, where the record is one of bytes.
 -- Each token has a bound of its own, and bounds add up (`Within`); the longest token is a string's literal.
-use mathlib.Core.Path.{_≡_}
 use mathlib.Core.Bool.{Bool, true, false, _&&_, _||_}
 use mathlib.Core.List.{List, [], _∷_, _++_, append-nil}
-use Prim.Native.Nat.{ℕ, zero, suc, _+_, _*_, _/_, _%_, _^_, _≤_, _<_}
+use Prim.Native.Nat.{ℕ, suc, _+_, _*_, _/_, _%_, _^_, _≤_, _<_}
 use native.Mathlib.Decide.{decLt}
 use native.Mathlib.Omega.{arith}
 use borrow.Author.Tests.{lt-ltb, le-ltb}
@@ -17,7 +16,7 @@ use Rattle.lists.specs.Bytes.{u16At, u32At, u64At}
 use Rattle.lists.specs.Signed.{i32Of, i64Of}
 use Rattle.text.specs.NumberLaws.{num-64}
 use Rattle.text.specs.LiteralBounds.{literal-short}
-use Rattle.tokens.specs.Token.{Token, token, punct}
+use Rattle.tokens.specs.Token.{Token, punct}
 use Rattle.tokens.specs.Words.{wordToken, prefixed}
 use Rattle.tokens.specs.Listing.{textOf}
 use Rattle.tokens.specs.ListingLaws.{text-append}
@@ -141,7 +140,7 @@ pub word-within : (w : ℕ) → Within 1 30 (wordToken w ∷ [])
 word-within w = one (wordToken w) 30 (word-short w)
 
 module _ (h : Header) (b : List ℕ) (bs : AllBytes b) where
-  scaled-within : Within 3 27 (scaled h b .tokens)
+  scaled-within : Within 3 27 (scaled b .tokens)
   scaled-within =
       either (λ (e : Expr). Within 3 27 (e .tokens)) (ltb 1 (scaleOf b)) _ _
       (both (register-within (indexOf b)) (both (one (punct " * ") 3 (omega arith)) (number-within false (scaleOf b) (omega (arith, bs 7)))))
@@ -153,7 +152,7 @@ module _ (h : Header) (b : List ℕ) (bs : AllBytes b) where
       (more 7 37 (register-within (slotBase h b)) (omega arith) (omega arith))
       (either (λ (e : Expr). Within 7 37 (e .tokens)) (eqb (slotBase h b) 0) _ _
       (more 7 37 scaled-within (omega arith) (omega arith))
-      (both (register-within (slotBase h b)) (both (one (punct " + ") 3 (omega arith)) (wrapped 3 27 (scaled h b) scaled-within))))
+      (both (register-within (slotBase h b)) (both (one (punct " + ") 3 (omega arith)) (wrapped 3 27 (scaled b) scaled-within))))
 
   displacement-abs : natAbs (displacement h b) ≤ 2 ^ 63
   unfolding displacement
@@ -201,7 +200,7 @@ signed-abs : (kind v : ℕ) → v < 2 ^ 64 → natAbs (signedRead kind v) ≤ 18
 unfolding signedRead
 signed-abs kind v p =
     pick-le natAbs 18446744073709551615 (eqb kind 6 || eqb kind 9 || eqb kind 10) (i64Of v) _ (omega (arith, i64-abs v p))
-    (pick-le natAbs 18446744073709551615 (eqb kind 5 || eqb kind 8) (i32Of (v % 4294967296)) (pos v) (omega (arith, i32-abs (v % 4294967296) (omega arith))) (omega arith))
+    (pick-le natAbs 18446744073709551615 (eqb kind 5 || eqb kind 8) (i32Of (v % 4294967296)) (pos 0) (omega (arith, i32-abs (v % 4294967296) (omega arith))) (omega arith))
 
 module _ (h : Header) (s b : List ℕ) (ss : AllBytes s) (bs : AllBytes b) where
   immediate-within : (kind v : ℕ) → v < 2 ^ 64 → Within 1 486 (immediate h s kind v ∷ [])
@@ -212,11 +211,11 @@ module _ (h : Header) (s b : List ℕ) (ss : AllBytes s) (bs : AllBytes b) where
       (more 1 486 (number-within true _ (omega (arith, signed-abs kind v p))) (omega arith) (omega arith))
       (more 1 486 (number-within false v p) (omega arith) (omega arith)))
 
-  address-either : (deref : Bool) → Within 14 487 (address h s deref b .tokens)
+  address-either : (deref : Bool) → Within 14 487 (address h deref b .tokens)
   address-either true = more 14 487 (both (word-within _) (wrapped 11 61 (addressExpr h b) (address-within h b bs))) (omega arith) (omega arith)
   address-either false = more 14 487 (address-within h b bs) (omega arith) (omega arith)
 
-  segment-within : Within 4 51 (segmentRead h s b)
+  segment-within : Within 4 51 (segmentRead b)
   segment-within =
       both (word-within _) (both (one (punct "(") 1 (omega arith)) (both (number-within false _ (u64-small b bs 10)) (one (punct ")") 1 (omega arith))))
 
@@ -229,8 +228,8 @@ module _ (h : Header) (s b : List ℕ) (ss : AllBytes s) (bs : AllBytes b) where
     pub mem-within : (deref : Bool) → Within 14 487 (memTokens h s deref b)
     unfolding memTokens memExpr
     mem-within deref =
-        either (λ (e : Expr). Within 14 487 (e .tokens)) (isSegmentRead h s b) _ _ (more 14 487 segment-within (omega arith) (omega arith))
-        (either (λ (e : Expr). Within 14 487 (e .tokens)) (isGlobal h s b) _ _
+        either (λ (e : Expr). Within 14 487 (e .tokens)) (isSegmentRead b) _ _ (more 14 487 segment-within (omega arith) (omega arith))
+        (either (λ (e : Expr). Within 14 487 (e .tokens)) (isGlobal b) _ _
         (more 14 487 (global-within deref) (omega arith) (omega arith))
         (either (λ (e : Expr). Within 14 487 (e .tokens)) (isSlot h b) _ _
         (more 14 487 (addressed 46 deref (slotToken h b) (slot-within h b bs shift)) (omega arith) (omega arith))

@@ -4,6 +4,6 @@ pub mod Memory
 pub mod Operand
 pub mod Alike
 pub mod Bounds
-pub mod Lent
+pub mod Tables
 pub mod Sized
 pub mod Accepted

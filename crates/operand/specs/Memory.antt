@@ -1,7 +1,7 @@
 -- `mem`: a memory operand, read (`deref`) or as an address.
 use Prim.Native.Nat.{ℕ, _+_, _%_}
 use mathlib.Core.Bool.{Bool, true, false, not, _&&_, _||_}
-use mathlib.Core.List.{List, [], _∷_, _++_}
+use mathlib.Core.List.{List, [], _∷_}
 use lib.Dec.{eqb, ltb}
 use lib.IntN.{ℤ, pos, negsuc, _+ℤ_, natAbs}
 use Rattle.lists.specs.Choice.{pick}
@@ -9,22 +9,18 @@ use Rattle.lists.specs.Signed.{i32Of, i64Of}
 use Rattle.text.specs.Number.{numText}
 use Rattle.tokens.specs.Token.{Token, token, punct}
 use Rattle.tokens.specs.Words.{wordToken, prefixed}
-use Rattle.x86.specs.Registers.{registerName}
+use Rattle.x86.specs.Registers.{registerName, esp, rsp, eip, rip, fs, gs, isStackPointer}
 use Rattle.x86.specs.Sizes.{sizeIndex, prefixIndex}
 use Rattle.record.specs.declared.header.Header.{Header}
 use Rattle.record.specs.Body.{segmentOf, baseOf, indexOf, scaleOf, memorySize, memoryAddress}
 use Rattle.operand.specs.Expr.{Expr, tight, wrap, binop}
 use Rattle.operand.specs.Names.{nameOr, isLiteral}
 
--- registers by number: fs gs; eip rip; esp rsp
 abbrev pub isFsOrGs : ℕ → Bool
-isFsOrGs r = eqb r 0x74 || eqb r 0x75
+isFsOrGs r = eqb r fs || eqb r gs
 
 abbrev pub isIp : ℕ → Bool
-isIp r = eqb r 0x60 || eqb r 0x61
-
-abbrev pub isSp : ℕ → Bool
-isSp r = eqb r 0x44 || eqb r 0x54
+isIp r = eqb r eip || eqb r rip
 
 abbrev pub isNegative : ℤ → Bool
 isNegative (pos n) = false
@@ -39,7 +35,7 @@ number negative n = token 2 (numText negative n)
 
 -- the read of a segment register's memory: __readgsqword and so on, by size
 unfoldable pub segmentWord : ℕ → ℕ → ℕ
-segmentWord seg size = pick (eqb seg 0x75) (pick (eqb size 8) 63 (pick (eqb size 4) 64 65)) (pick (eqb size 8) 66 (pick (eqb size 4) 67 68))
+segmentWord seg size = pick (eqb seg gs) (pick (eqb size 8) 63 (pick (eqb size 4) 64 65)) (pick (eqb size 8) 66 (pick (eqb size 4) 67 68))
 
 -- `*(uint32_t *)` and so on, and `dword_` and so on, as words by size
 abbrev pub typeWord : ℕ → ℕ
@@ -53,6 +49,24 @@ abbrev pub addressOf : Bool → Token → List Token
 addressOf true t = t ∷ []
 addressOf false t = punct "&" ∷ t ∷ []
 
+-- index × scale
+abbrev pub scaled : List ℕ → Expr
+scaled b =
+    pick (ltb 1 (scaleOf b))
+    (binop (tight (registerToken (indexOf b) ∷ [])) (punct " * ") (tight (number false (scaleOf b) ∷ [])))
+    (tight (registerToken (indexOf b) ∷ []))
+
+-- fs and gs reads: no base, no index
+abbrev pub isSegmentRead : List ℕ → Bool
+isSegmentRead b = isFsOrGs (segmentOf b) && eqb (baseOf b) 0 && eqb (indexOf b) 0
+
+abbrev pub segmentRead : List ℕ → List Token
+segmentRead b = wordToken (segmentWord (segmentOf b) (memorySize b)) ∷ punct "(" ∷ number false (memoryAddress b) ∷ punct ")" ∷ []
+
+-- absolute or by rip or eip: a global
+abbrev pub isGlobal : List ℕ → Bool
+isGlobal b = isIp (baseOf b) || (eqb (baseOf b) 0 && eqb (indexOf b) 0)
+
 module _ (h : Header) where
   -- "frame register (0 none, equal to nothing)"
   abbrev pub isFrame : ℕ → Bool
@@ -63,7 +77,7 @@ module _ (h : Header) where
   isShifted b = eqb (h .shifted) 1 && isFrame (baseOf b) && eqb (indexOf b) 0
 
   abbrev pub stackPointer : ℕ
-  stackPointer = pick (eqb (h .bits) 64) 0x54 0x44
+  stackPointer = pick (eqb (h .bits) 64) rsp esp
 
   unfoldable pub slotBase : List ℕ → ℕ
   slotBase b = pick (isShifted b) stackPointer (baseOf b)
@@ -76,23 +90,16 @@ module _ (h : Header) where
   unfoldable pub isSlot : List ℕ → Bool
   isSlot b =
       eqb (indexOf b) 0
-      && not (isSp (slotBase b) && isNegative (slotNumber b))
-      && (isFrame (slotBase b) || isSp (slotBase b))
+      && not (isStackPointer (slotBase b) && isNegative (slotNumber b))
+      && (isFrame (slotBase b) || isStackPointer (slotBase b))
 
   -- var_ by the stack pointer or below the frame register, arg_ above it
   unfoldable pub slotToken : List ℕ → Token
-  slotToken b = prefixed (pick (isSp (slotBase b) || isNegative (slotNumber b)) 92 93) (natAbs (slotNumber b))
+  slotToken b = prefixed (pick (isStackPointer (slotBase b) || isNegative (slotNumber b)) 92 93) (natAbs (slotNumber b))
 
   -- the displacement that an address prints: never shifted
   unfoldable pub displacement : List ℕ → ℤ
   displacement b = pick (eqb (h .bits) 64) (i64Of (memoryAddress b)) (i32Of (memoryAddress b % 4294967296))
-
-  -- index × scale
-  abbrev pub scaled : List ℕ → Expr
-  scaled b =
-      pick (ltb 1 (scaleOf b))
-      (binop (tight (registerToken (indexOf b) ∷ [])) (punct " * ") (tight (number false (scaleOf b) ∷ [])))
-      (tight (registerToken (indexOf b) ∷ []))
 
   -- base + index × scale
   abbrev pub registers : List ℕ → Expr
@@ -106,24 +113,13 @@ module _ (h : Header) where
       pick (eqb (natAbs (displacement b)) 0) (registers b)
       (binop (registers b) (pick (isNegative (displacement b)) (punct " - ") (punct " + ")) (tight (number false (natAbs (displacement b)) ∷ [])))
 
+  abbrev pub address : Bool → List ℕ → Expr
+  address true b = tight (wordToken (typeWord (memorySize b)) ∷ wrap (addressExpr b))
+  address false b = addressExpr b
+
   module _ (s : List ℕ) where
-    -- fs and gs reads: no base, no index
-    abbrev pub isSegmentRead : List ℕ → Bool
-    isSegmentRead b = isFsOrGs (segmentOf b) && eqb (baseOf b) 0 && eqb (indexOf b) 0
-
-    -- absolute or by rip or eip: a global
-    abbrev pub isGlobal : List ℕ → Bool
-    isGlobal b = isIp (baseOf b) || (eqb (baseOf b) 0 && eqb (indexOf b) 0)
-
-    abbrev pub segmentRead : List ℕ → List Token
-    segmentRead b = wordToken (segmentWord (segmentOf b) (memorySize b)) ∷ punct "(" ∷ number false (memoryAddress b) ∷ punct ")" ∷ []
-
     abbrev pub global : Bool → List ℕ → List Token
     global deref b = addressOf (deref || isLiteral h s (memoryAddress b)) (nameOr h s (memoryAddress b) (prefixWord (memorySize b)))
-
-    abbrev pub address : Bool → List ℕ → Expr
-    address true b = tight (wordToken (typeWord (memorySize b)) ∷ wrap (addressExpr b))
-    address false b = addressExpr b
 
     unfoldable pub memExpr : Bool → List ℕ → Expr
     memExpr deref b =

@@ -1,4 +1,4 @@
-// "TEST operands that print alike": both are printed, and their bytes compared.
+// TEST's "operands that print alike": both are printed, and their bytes compared.
 use crate::operand::op;
 use record::header::Header;
 use tokens::pen::first_pen;
@@ -7,8 +7,8 @@ ghost use Prim.Native.Nat.{_≤_};
 ghost use lib.ListN.{length, take};
 ghost use Rattle.tokens.specs.Listing.{textOf};
 ghost use Rattle.operand.specs.Operand.{opTokens};
-ghost use Rattle.operand.specs.Alike.{sameBytes, alike, Printed};
-ghost use Rattle.operand.specs.Lent.{Lent};
+ghost use Rattle.operand.specs.Alike.{sameBytes, alike, TextStored};
+ghost use Rattle.operand.specs.Tables.{Tables};
 
 // Whether two lists begin with the same n bytes.
 fn same_bytes(a: &[u8], b: &[u8], n: usize) -> bool
@@ -35,8 +35,8 @@ fn print_operand(
     body: &[u8],
     i: u8,
 ) -> usize
-    requires { ⌜ Lent (now words) (now isa) h (now rec) ⌝ }
-    ensures { λ r. ⌜ Printed (textOf (opTokens h (now (rec .entry)) (now (body .entry)) i)) (now (text .entry)) (now (text .exit)) r ⌝ }
+    requires { ⌜ Tables (now words) (now isa) h (now rec) ⌝ }
+    ensures { λ r. ⌜ TextStored (textOf (opTokens h (now (rec .entry)) (now (body .entry)) i)) (now (text .entry)) (now (text .exit)) r ⌝ }
 {
     let mut ends = [0u32; 0];
     let mut kinds = [0u8; 0];
@@ -57,7 +57,7 @@ fn print_operand(
 
 // Whether the first two operands of a body print alike.
 pub fn alike(words: &[u8], isa: &[u8], rec: &[u8], h: Header, body: &[u8]) -> bool
-    requires { ⌜ Lent (now words) (now isa) h (now rec) ⌝ }
+    requires { ⌜ Tables (now words) (now isa) h (now rec) ⌝ }
     ensures { λ r. ⌜ r ≡ alike h (now (rec .entry)) (now (body .entry)) ⌝ }
 {
     let mut first = [0u8; 640];

@@ -4,7 +4,6 @@ use crate::names::is_literal;
 use crate::names::push_found;
 use crate::slots::displacement;
 use crate::slots::is_slot;
-use crate::slots::is_sp;
 use crate::slots::slot_base;
 use crate::slots::slot_number;
 use record::body::memory_address;
@@ -35,6 +34,7 @@ use tokens::words::READ_GS_DWORD;
 use tokens::words::READ_GS_QWORD;
 use tokens::words::TIMES;
 use tokens::words::VAR;
+use x86::registers::is_stack_pointer;
 use x86::registers::register_spelling;
 use x86::sizes::prefix_index;
 use x86::sizes::size_index;
@@ -42,13 +42,13 @@ ghost use mathlib.Core.Bool.{true, false, _||_};
 ghost use mathlib.Core.List.{[], _∷_};
 ghost use mathlib.Core.Path.{_≡_};
 ghost use Rattle.lists.specs.Choice.{pick};
-ghost use Rattle.tokens.specs.Sheet.{sheet, push, pushes};
+ghost use Rattle.tokens.specs.Sheet.{sheet, pushes};
 ghost use Rattle.tokens.specs.Token.{punct};
 ghost use Rattle.tokens.specs.Words.{wordBytes, wordToken};
 ghost use Rattle.x86.specs.Table.{isaBytes};
 ghost use Rattle.operand.specs.Expr.{wrap};
 ghost use Rattle.operand.specs.Memory.{registerToken, number, typeWord, prefixWord, segmentWord, segmentRead, global, slotToken, addressOf, scaled, registers, addressExpr, address, isSegmentRead, isGlobal, memTokens};
-ghost use Rattle.operand.specs.Lent.{Lent};
+ghost use Rattle.operand.specs.Tables.{Tables};
 
 // A register.
 pub fn push_register(
@@ -115,13 +115,11 @@ fn push_segment(
     kinds: &mut [u8],
     pen: Pen,
     words: &[u8],
-    rec: &[u8],
-    h: Header,
     body: &[u8],
 ) -> Pen
     requires { ⌜ now words ≡ wordBytes ⌝ }
     ensures { λ r. ⌜ sheet (now (text .exit)) (now (ends .exit)) (now (kinds .exit)) r
-        ≡ pushes (sheet (now (text .entry)) (now (ends .entry)) (now (kinds .entry)) pen) (segmentRead h (now (rec .entry)) (now (body .entry))) ⌝ }
+        ≡ pushes (sheet (now (text .entry)) (now (ends .entry)) (now (kinds .entry)) pen) (segmentRead (now (body .entry))) ⌝ }
 {
     let w = segment_word(memory_segment(body), memory_size(body));
     let pen = push_word(text, ends, kinds, pen, words, w);
@@ -148,7 +146,7 @@ fn push_global(
     body: &[u8],
     deref: bool,
 ) -> Pen
-    requires { ⌜ Lent (now words) (now isa) h (now rec) ⌝ }
+    requires { ⌜ Tables (now words) (now isa) h (now rec) ⌝ }
     ensures { λ r. ⌜ sheet (now (text .exit)) (now (ends .exit)) (now (kinds .exit)) r
         ≡ pushes (sheet (now (text .entry)) (now (ends .entry)) (now (kinds .entry)) pen) (global h (now (rec .entry)) deref (now (body .entry))) ⌝ }
 {
@@ -185,7 +183,7 @@ fn push_slot(
         ≡ pushes (sheet (now (text .entry)) (now (ends .entry)) (now (kinds .entry)) pen) (addressOf deref (slotToken h (now (body .entry)))) ⌝ }
 {
     let n = slot_number(h, body);
-    let w = slot_word(is_sp(slot_base(h, body)), n.negative);
+    let w = slot_word(is_stack_pointer(slot_base(h, body)), n.negative);
     if deref {
         return push_prefixed(text, ends, kinds, pen, words, w, n.size);
     }
@@ -221,12 +219,11 @@ fn push_scaled(
     pen: Pen,
     words: &[u8],
     isa: &[u8],
-    h: Header,
     body: &[u8],
 ) -> Pen
     requires { ⌜ (now words ≡ wordBytes) × (now isa ≡ isaBytes) ⌝ }
     ensures { λ r. ⌜ sheet (now (text .exit)) (now (ends .exit)) (now (kinds .exit)) r
-        ≡ pushes (sheet (now (text .entry)) (now (ends .entry)) (now (kinds .entry)) pen) (scaled h (now (body .entry)) .tokens) ⌝ }
+        ≡ pushes (sheet (now (text .entry)) (now (ends .entry)) (now (kinds .entry)) pen) (scaled (now (body .entry)) .tokens) ⌝ }
 {
     let pen = push_register(text, ends, kinds, pen, isa, memory_index(body));
     let scale = memory_index_scale(body);
@@ -245,16 +242,15 @@ fn push_wrapped_index(
     pen: Pen,
     words: &[u8],
     isa: &[u8],
-    h: Header,
     body: &[u8],
 ) -> Pen
     requires { ⌜ (now words ≡ wordBytes) × (now isa ≡ isaBytes) ⌝ }
     ensures { λ r. ⌜ sheet (now (text .exit)) (now (ends .exit)) (now (kinds .exit)) r
-        ≡ pushes (sheet (now (text .entry)) (now (ends .entry)) (now (kinds .entry)) pen) (wrap (scaled h (now (body .entry)))) ⌝ }
+        ≡ pushes (sheet (now (text .entry)) (now (ends .entry)) (now (kinds .entry)) pen) (wrap (scaled (now (body .entry)))) ⌝ }
 {
     let loose = 1 < memory_index_scale(body);
     let pen = push_if(text, ends, kinds, pen, words, OPEN, loose);
-    let pen = push_scaled(text, ends, kinds, pen, words, isa, h, body);
+    let pen = push_scaled(text, ends, kinds, pen, words, isa, body);
     push_if(text, ends, kinds, pen, words, CLOSE, loose)
 }
 
@@ -278,11 +274,11 @@ fn push_registers(
         return push_register(text, ends, kinds, pen, isa, base);
     }
     if base == 0 {
-        return push_scaled(text, ends, kinds, pen, words, isa, h, body);
+        return push_scaled(text, ends, kinds, pen, words, isa, body);
     }
     let pen = push_register(text, ends, kinds, pen, isa, base);
     let pen = push_word(text, ends, kinds, pen, words, PLUS);
-    push_wrapped_index(text, ends, kinds, pen, words, isa, h, body)
+    push_wrapped_index(text, ends, kinds, pen, words, isa, body)
 }
 
 fn registers_loose(h: Header, body: &[u8]) -> bool
@@ -395,27 +391,26 @@ fn push_read(
     pen: Pen,
     words: &[u8],
     isa: &[u8],
-    rec: &[u8],
     h: Header,
     body: &[u8],
 ) -> Pen
     requires { ⌜ (now words ≡ wordBytes) × (now isa ≡ isaBytes) ⌝ }
     ensures { λ r. ⌜ sheet (now (text .exit)) (now (ends .exit)) (now (kinds .exit)) r
-        ≡ pushes (sheet (now (text .entry)) (now (ends .entry)) (now (kinds .entry)) pen) (address h (now (rec .entry)) true (now (body .entry)) .tokens) ⌝ }
+        ≡ pushes (sheet (now (text .entry)) (now (ends .entry)) (now (kinds .entry)) pen) (address h true (now (body .entry)) .tokens) ⌝ }
 {
     let pen = push_word(text, ends, kinds, pen, words, type_word(memory_size(body)));
     push_wrapped_address(text, ends, kinds, pen, words, isa, h, body)
 }
 
-fn is_segment_read(rec: &[u8], h: Header, body: &[u8]) -> bool
-    ensures { λ r. ⌜ r ≡ isSegmentRead h (now (rec .entry)) (now (body .entry)) ⌝ }
+fn is_segment_read(body: &[u8]) -> bool
+    ensures { λ r. ⌜ r ≡ isSegmentRead (now (body .entry)) ⌝ }
 {
     let seg = memory_segment(body);
     ((seg == 0x74) | (seg == 0x75)) & (memory_base(body) == 0) & (memory_index(body) == 0)
 }
 
-fn is_global(rec: &[u8], h: Header, body: &[u8]) -> bool
-    ensures { λ r. ⌜ r ≡ isGlobal h (now (rec .entry)) (now (body .entry)) ⌝ }
+fn is_global(body: &[u8]) -> bool
+    ensures { λ r. ⌜ r ≡ isGlobal (now (body .entry)) ⌝ }
 {
     let base = memory_base(body);
     (base == 0x60) | (base == 0x61) | ((base == 0) & (memory_index(body) == 0))
@@ -434,21 +429,21 @@ pub fn mem(
     body: &[u8],
     deref: bool,
 ) -> Pen
-    requires { ⌜ Lent (now words) (now isa) h (now rec) ⌝ }
+    requires { ⌜ Tables (now words) (now isa) h (now rec) ⌝ }
     ensures { λ r. ⌜ sheet (now (text .exit)) (now (ends .exit)) (now (kinds .exit)) r
         ≡ pushes (sheet (now (text .entry)) (now (ends .entry)) (now (kinds .entry)) pen) (memTokens h (now (rec .entry)) deref (now (body .entry))) ⌝ }
 {
-    if is_segment_read(rec, h, body) {
-        return push_segment(text, ends, kinds, pen, words, rec, h, body);
+    if is_segment_read(body) {
+        return push_segment(text, ends, kinds, pen, words, body);
     }
-    if is_global(rec, h, body) {
+    if is_global(body) {
         return push_global(text, ends, kinds, pen, words, isa, rec, h, body, deref);
     }
     if is_slot(h, body) {
         return push_slot(text, ends, kinds, pen, words, h, body, deref);
     }
     if deref {
-        return push_read(text, ends, kinds, pen, words, isa, rec, h, body);
+        return push_read(text, ends, kinds, pen, words, isa, h, body);
     }
     push_address(text, ends, kinds, pen, words, isa, h, body)
 }

@@ -5,8 +5,8 @@ ghost use mathlib.Core.Path.{_≡_};
 ghost use Prim.Native.Nat.{_≤_};
 ghost use lib.IntN.{_+ℤ_, natAbs};
 ghost use Rattle.operand.specs.Memory.{isNegative};
-ghost use Rattle.operand.specs.Operand.{inWindow};
-ghost use Rattle.operand.specs.Sized.{sizedOf, sizedDifference, windowRead};
+ghost use Rattle.operand.specs.Operand.{signedRead, inWindow};
+ghost use Rattle.operand.specs.Sized.{sizedOf, sizedDifference};
 
 // A number's sign and size: the sum of an i64 and an i32 has one too.
 pub struct Sized {
@@ -53,9 +53,9 @@ pub fn in_window(x: i64) -> bool
     (-4096 <= x) & (x < 0)
 }
 
-// What the window is asked of: an immediate's signed reading, and 0 for kinds that have none.
-pub fn window_read(kind: u8, v: u64) -> i64
-    ensures { λ r. ⌜ r ≡ windowRead kind v ⌝ }
+// An immediate's signed reading, and 0 for kinds that have none.
+pub fn signed_read(kind: u8, v: u64) -> i64
+    ensures { λ r. ⌜ r ≡ signedRead kind v ⌝ }
 {
     if (kind == 6) | (kind == 9) | (kind == 10) {
         return signed64(v);

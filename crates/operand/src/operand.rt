@@ -5,7 +5,7 @@ use crate::names::in_span;
 use crate::names::name_or;
 use crate::numbers::in_window;
 use crate::numbers::magnitude;
-use crate::numbers::window_read;
+use crate::numbers::signed_read;
 use record::body::op_kind;
 use record::body::op_number;
 use record::body::op_register;
@@ -23,7 +23,7 @@ ghost use mathlib.Core.Path.{_≡_};
 ghost use Rattle.tokens.specs.Sheet.{sheet, pushes};
 ghost use Rattle.operand.specs.Names.{inSpan};
 ghost use Rattle.operand.specs.Operand.{immediateNumber, immediate, opTokens};
-ghost use Rattle.operand.specs.Lent.{Lent};
+ghost use Rattle.operand.specs.Tables.{Tables};
 
 // Whether an immediate is an address in a span.
 fn is_address(rec: &[u8], h: Header, v: u64) -> bool
@@ -47,7 +47,7 @@ fn push_immediate(
     ensures { λ r. ⌜ sheet (now (text .exit)) (now (ends .exit)) (now (kinds .exit)) r
         ≡ pushes (sheet (now (text .entry)) (now (ends .entry)) (now (kinds .entry)) pen) (immediateNumber kind v ∷ []) ⌝ }
 {
-    let s = window_read(kind, v);
+    let s = signed_read(kind, v);
     if in_window(s) {
         return push_num(text, ends, kinds, pen, true, magnitude(s));
     }
@@ -67,7 +67,7 @@ pub fn immediate(
     kind: u8,
     v: u64,
 ) -> Pen
-    requires { ⌜ Lent (now words) (now isa) h (now rec) ⌝ }
+    requires { ⌜ Tables (now words) (now isa) h (now rec) ⌝ }
     ensures { λ r. ⌜ sheet (now (text .exit)) (now (ends .exit)) (now (kinds .exit)) r
         ≡ pushes (sheet (now (text .entry)) (now (ends .entry)) (now (kinds .entry)) pen) (immediate h (now (rec .entry)) kind v ∷ []) ⌝ }
 {
@@ -90,7 +90,7 @@ pub fn op(
     body: &[u8],
     i: u8,
 ) -> Pen
-    requires { ⌜ Lent (now words) (now isa) h (now rec) ⌝ }
+    requires { ⌜ Tables (now words) (now isa) h (now rec) ⌝ }
     ensures { λ r. ⌜ sheet (now (text .exit)) (now (ends .exit)) (now (kinds .exit)) r
         ≡ pushes (sheet (now (text .entry)) (now (ends .entry)) (now (kinds .entry)) pen) (opTokens h (now (rec .entry)) (now (body .entry)) i) ⌝ }
 {

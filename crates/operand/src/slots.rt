@@ -9,18 +9,12 @@ use record::body::memory_address;
 use record::body::memory_base;
 use record::body::memory_index;
 use record::header::Header;
+use x86::registers::is_stack_pointer;
 ghost use mathlib.Core.Path.{_≡_};
 ghost use lib.IntN.{_+ℤ_};
 ghost use Rattle.lists.specs.Signed.{i32Of, i64Of};
-ghost use Rattle.operand.specs.Memory.{isSp, isFrame, isShifted, slotBase, slotNumber, isSlot, displacement};
+ghost use Rattle.operand.specs.Memory.{isFrame, isShifted, slotBase, slotNumber, isSlot, displacement};
 ghost use Rattle.operand.specs.Sized.{sizedOf};
-
-// The stack pointer, esp or rsp.
-pub fn is_sp(r: u8) -> bool
-    ensures { λ b. ⌜ b ≡ isSp r ⌝ }
-{
-    (r == 0x44) | (r == 0x54)
-}
 
 fn is_frame(h: Header, r: u8) -> bool
     ensures { λ b. ⌜ b ≡ isFrame h r ⌝ }
@@ -77,7 +71,7 @@ pub fn is_slot(h: Header, body: &[u8]) -> bool
 {
     let base = slot_base(h, body);
     let n = slot_number(h, body);
-    let sp = is_sp(base);
+    let sp = is_stack_pointer(base);
     (memory_index(body) == 0) & !(sp & n.negative) & (is_frame(h, base) | sp)
 }
 

@@ -21,12 +21,13 @@ use Rattle.structure.specs.Demand.{Shallow}
 use Rattle.structure.specs.Stored.{Stored}
 use Rattle.operand.specs.Accepted.{accepted-rising}
 use Rattle.operand.specs.Bounds.{AllBytes, i32-abs}
-use Rattle.operand.specs.Lent.{Rising}
+use Rattle.operand.specs.Tables.{Rising}
 use Rattle.flow.specs.Rows.{blockRows}
-use Rattle.flow.specs.Laws.{filled}
-use Rattle.flow.specs.Counted.{Counted, marks-counted, limits-small}
+use Rattle.flow.proofs.Laws.{filled}
+use Rattle.flow.specs.Counted.{Counted}
+use Rattle.flow.proofs.Totals.{marks-counted, limits-small}
 use Rattle.flow.specs.Planned.{recordPlan, recordCodes}
-use Rattle.flow.specs.Bounds.{record-placed, record-few, record-shallow}
+use Rattle.flow.proofs.Bounds.{record-placed, record-few, record-shallow}
 use Rattle.line.specs.Bounds.{Fits, printed-fits}
 use Rattle.line.specs.Lines.{lineIn, lines-again}
 use Rattle.line.specs.Print.{printed}

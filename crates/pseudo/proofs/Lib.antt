@@ -2,3 +2,4 @@ pub mod Marking
 pub mod Listing
 pub mod Answers
 pub mod Calls
+pub mod Demand

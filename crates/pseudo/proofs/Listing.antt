@@ -17,7 +17,7 @@ use Rattle.tokens.specs.Page.{Page, page, linesOn}
 use Rattle.tokens.specs.Listing.{Listing, listing}
 use Rattle.tokens.specs.ListingLaws.{Listed, listed, lines-length, kinds-as-ends}
 use Rattle.lists.specs.Every.{both-yes}
-use Rattle.flow.specs.Laws.{put-read}
+use Rattle.flow.proofs.Laws.{put-read}
 use Rattle.line.specs.Bounds.{Fits}
 use Rattle.pseudo.specs.Called.{sizesOf, Stands}
 use Rattle.pseudo.specs.Draft.{Draft, holds, Copied, Printed}
@@ -29,17 +29,17 @@ begins t x x′ e h = rw e (put-read t x (length t) refl (omega (arith, h, ap le
 
 module _ (ls : List (List Token)) (f : Fits ls) (p : Pen) (first : p ≡ firstPen) (l l′ x x′ e e′ k k′ : List ℕ) (r : Pen)
     (q : page l′ x′ e′ k′ r ≡ linesOn (page l x e k p) 0 ls) where
-  told : Listed ls l l′ x x′ e e′ k k′ r
-  told = listed ls l l′ x x′ e e′ k k′ r 255 false (f .bytes) (f .tokens) (q ∙ ap {B = Page} (λ (p : Pen). linesOn (page l x e k p) 0 ls) first)
+  stored : Listed ls l l′ x x′ e e′ k k′ r
+  stored = listed ls l l′ x x′ e e′ k k′ r 255 false (f .bytes) (f .tokens) (q ∙ ap {B = Page} (λ (p : Pen). linesOn (page l x e k p) 0 ls) first)
 
-  pub sizes-told : (codes : List ℕ) → record { text = r .text; tokens = r .tokens; lines = length codes } ≡ sizesOf (listing ls) codes
-  sizes-told codes = rw (told .bytes, told .tokens)
+  pub sizes-are : (codes : List ℕ) → record { text = r .text; tokens = r .tokens; lines = length codes } ≡ sizesOf (listing ls) codes
+  sizes-are codes = rw (stored .bytes, stored .tokens)
 
-  pub draft-told : Draft (listing ls) x′ e′ k′ l′
-  draft-told = record { text = begins _ x x′ (told .text); ends = begins _ e e′ (told .ends); kinds = begins _ k k′ (told .kinds); lines = begins _ l l′ (told .lines) }
+  pub draft-is : Draft (listing ls) x′ e′ k′ l′
+  draft-is = record { text = begins _ x x′ (stored .text); ends = begins _ e e′ (stored .ends); kinds = begins _ k k′ (stored .kinds); lines = begins _ l l′ (stored .lines) }
 
-  pub printed-told : Printed (listing ls) x x′ e e′ k k′ l l′
-  printed-told = record { text = told .text; ends = told .ends; kinds = told .kinds; lines = told .lines }
+  pub printed-is : Printed (listing ls) x x′ e e′ k k′ l l′
+  printed-is = record { text = stored .text; ends = stored .ends; kinds = stored .kinds; lines = stored .lines }
 
 -- ---- a draft that holds all
 record Held (t e k l : List ℕ) (z : Sizes) : Type 0 where

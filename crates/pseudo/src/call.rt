@@ -20,7 +20,7 @@ use tokens::words::word_table;
 use x86::table::isa;
 ghost use mathlib.Core.List.{map};
 ghost use mathlib.Core.Path.{_≡_};
-ghost use Rattle.operand.specs.Lent.{Lent};
+ghost use Rattle.operand.specs.Tables.{Tables};
 ghost use Rattle.flow.specs.Rows.{blockRows};
 ghost use Rattle.line.specs.Codes.{rowBytes};
 ghost use Rattle.line.specs.Lines.{lineIn};
@@ -59,7 +59,7 @@ fn list_draft(
     range: u16,
     codes: &[u64],
 ) -> Answer
-    requires { ⌜ Lent (now words) (now isa) h (now rec) ⌝ }
+    requires { ⌜ Tables (now words) (now isa) h (now rec) ⌝ }
     requires { ⌜ now rows ≡ rowBytes ⌝ }
     requires { ⌜ now blocks ≡ blockRows h (now rec) ⌝ }
     requires { ⌜ Fits (printed h (now rec) range 0 (map lineIn (now codes))) ⌝ }
@@ -127,7 +127,7 @@ fn list_by_draft(
     range: u16,
     codes: &[u64],
 ) -> Answer
-    requires { ⌜ Lent (now words) (now isa) h (now rec) ⌝ }
+    requires { ⌜ Tables (now words) (now isa) h (now rec) ⌝ }
     requires { ⌜ now rows ≡ rowBytes ⌝ }
     requires { ⌜ now blocks ≡ blockRows h (now rec) ⌝ }
     requires { ⌜ Fits (printed h (now rec) range 0 (map lineIn (now codes))) ⌝ }
@@ -177,7 +177,7 @@ fn list_plan(
     range: u16,
     codes: &[u64],
 ) -> Answer
-    requires { ⌜ Lent (now words) (now isa) h (now rec) ⌝ }
+    requires { ⌜ Tables (now words) (now isa) h (now rec) ⌝ }
     requires { ⌜ now rows ≡ rowBytes ⌝ }
     requires { ⌜ now blocks ≡ blockRows h (now rec) ⌝ }
     requires { ⌜ Fits (printed h (now rec) range 0 (map lineIn (now codes))) ⌝ }
@@ -255,7 +255,7 @@ fn list_range(
     from: u16,
     to: u16,
 ) -> Answer
-    requires { ⌜ Lent (now words) (now isa) h (now rec) ⌝ }
+    requires { ⌜ Tables (now words) (now isa) h (now rec) ⌝ }
     requires { ⌜ now rows ≡ rowBytes ⌝ }
     requires { ⌜ now blocks ≡ blockRows h (now rec) ⌝ }
     requires { ⌜ Accepted (now rec) from to h ⌝ }

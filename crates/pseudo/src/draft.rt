@@ -10,7 +10,7 @@ use record::header::Header;
 use tokens::pen::first_pen;
 ghost use mathlib.Core.List.{map};
 ghost use mathlib.Core.Path.{_≡_};
-ghost use Rattle.operand.specs.Lent.{Lent};
+ghost use Rattle.operand.specs.Tables.{Tables};
 ghost use Rattle.flow.specs.Rows.{blockRows};
 ghost use Rattle.line.specs.Bounds.{Fits};
 ghost use Rattle.line.specs.Codes.{rowBytes};
@@ -35,7 +35,7 @@ pub fn draft_plan(
     range: u16,
     codes: &[u64],
 ) -> Sizes
-    requires { ⌜ Lent (now words) (now isa) h (now rec) ⌝ }
+    requires { ⌜ Tables (now words) (now isa) h (now rec) ⌝ }
     requires { ⌜ now rows ≡ rowBytes ⌝ }
     requires { ⌜ now blocks ≡ blockRows h (now rec) ⌝ }
     requires { ⌜ Fits (printed h (now rec) range 0 (map lineIn (now codes))) ⌝ }
@@ -114,7 +114,7 @@ pub fn put_lines(
     range: u16,
     codes: &[u64],
 )
-    requires { ⌜ Lent (now words) (now isa) h (now rec) ⌝ }
+    requires { ⌜ Tables (now words) (now isa) h (now rec) ⌝ }
     requires { ⌜ now rows ≡ rowBytes ⌝ }
     requires { ⌜ now blocks ≡ blockRows h (now rec) ⌝ }
     requires { ⌜ Fits (printed h (now rec) range 0 (map lineIn (now codes))) ⌝ }

@@ -16,7 +16,7 @@ use tokens::words::word_table;
 use x86::table::isa;
 ghost use mathlib.Core.List.{map};
 ghost use mathlib.Core.Path.{_≡_};
-ghost use Rattle.operand.specs.Lent.{Lent};
+ghost use Rattle.operand.specs.Tables.{Tables};
 ghost use Rattle.record.specs.Asked.{firstNo};
 ghost use Rattle.flow.specs.Rows.{blockRows};
 ghost use Rattle.line.specs.Bounds.{Fits};
@@ -37,7 +37,7 @@ fn size_plan(
     range: u16,
     codes: &[u64],
 ) -> Sizes
-    requires { ⌜ Lent (now words) (now isa) h (now rec) ⌝ }
+    requires { ⌜ Tables (now words) (now isa) h (now rec) ⌝ }
     requires { ⌜ now rows ≡ rowBytes ⌝ }
     requires { ⌜ now blocks ≡ blockRows h (now rec) ⌝ }
     requires { ⌜ Fits (printed h (now rec) range 0 (map lineIn (now codes))) ⌝ }
@@ -74,7 +74,7 @@ fn size_range(
     from: u16,
     to: u16,
 ) -> Sizes
-    requires { ⌜ Lent (now words) (now isa) h (now rec) ⌝ }
+    requires { ⌜ Tables (now words) (now isa) h (now rec) ⌝ }
     requires { ⌜ now rows ≡ rowBytes ⌝ }
     requires { ⌜ now blocks ≡ blockRows h (now rec) ⌝ }
     requires { ⌜ Accepted (now rec) from to h ⌝ }

@@ -46,19 +46,19 @@ module _ (w i k d : ℕ) (h : w < 16) (p : i < 65536) (q : k < 65536) where
   indent-read = omega arith
 
 -- a code gives back the line
-pub record Told (l : Line) : Type 0 where
-  pub what-told : whatIn (codeOf l) ≡ whatNumber (l .what)
-  pub instruction-told : instructionIn (codeOf l) ≡ l .at
-  pub place-told : placeIn (codeOf l) ≡ l .place
-  pub indent-told : indentIn (codeOf l) ≡ l .indent
+pub record Decoded (l : Line) : Type 0 where
+  pub what-is : whatIn (codeOf l) ≡ whatNumber (l .what)
+  pub instruction-is : instructionIn (codeOf l) ≡ l .at
+  pub place-is : placeIn (codeOf l) ≡ l .place
+  pub indent-is : indentIn (codeOf l) ≡ l .indent
 
-pub told : (l : Line) → l .at < 65536 → l .place < 65536 → Told l
-told l p q =
+pub decoded : (l : Line) → l .at < 65536 → l .place < 65536 → Decoded l
+decoded l p q =
     let w = whatNumber (l .what) in
     let h = what-small (l .what) in
     record {
-      what-told = what-read w (l .at) (l .place) (l .indent) h p q;
-      instruction-told = instruction-read w (l .at) (l .place) (l .indent) h p q;
-      place-told = place-read w (l .at) (l .place) (l .indent) h p q;
-      indent-told = indent-read w (l .at) (l .place) (l .indent) h p q;
+      what-is = what-read w (l .at) (l .place) (l .indent) h p q;
+      instruction-is = instruction-read w (l .at) (l .place) (l .indent) h p q;
+      place-is = place-read w (l .at) (l .place) (l .indent) h p q;
+      indent-is = indent-read w (l .at) (l .place) (l .indent) h p q;
     }

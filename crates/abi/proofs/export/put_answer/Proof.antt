@@ -13,8 +13,8 @@ use Rattle.abi.proofs.export.put_answer.Statement.{statement}
 use Rattle.abi.proofs.export.put_answer.Tie as tie
 
 -- what is put for a case is put for the answer that is that case
-told : (g r : Answer) (z z′ : List ℕ) → g ≡ r → z′ ≡ put 0 (sizeList r) z → (numberOf r ≡ numberOf g) × (z′ ≡ put 0 (sizeList g) z)
-told g r z z′ h q = (ap numberOf (sym h), q ∙ ap (λ (g : Answer). put 0 (sizeList g) z) (sym h))
+answer-put : (g r : Answer) (z z′ : List ℕ) → g ≡ r → z′ ≡ put 0 (sizeList r) z → (numberOf r ≡ numberOf g) × (z′ ≡ put 0 (sizeList g) z)
+answer-put g r z z′ h q = (ap numberOf (sym h), q ∙ ap (λ (g : Answer). put 0 (sizeList g) z) (sym h))
 
 enum-known-answer : tie.Need-enum-known-answer
 enum-known-answer c = search needs
@@ -32,13 +32,13 @@ same-length : tie.Need-same-length
 same-length c = search needs
 
 returns : tie.Need-returns
-returns c = told _ (Listed _) _ _ ((c .before .before .before .before .before .answer) .given .1) ((c .before .before .put-sizes) .ensures)
+returns c = answer-put _ (Listed _) _ _ ((c .before .before .before .before .before .answer) .given .1) ((c .before .before .put-sizes) .ensures)
 
 same-length-2 : tie.Need-same-length-2
 same-length-2 c = search needs
 
 returns-2 : tie.Need-returns-2
-returns-2 c = told _ (No _) _ _ ((c .before .before .before .before .before .answer2) .given .1) ((c .before .before .put-sizes2) .ensures)
+returns-2 c = answer-put _ (No _) _ _ ((c .before .before .before .before .before .answer2) .given .1) ((c .before .before .put-sizes2) .ensures)
 
 pub put-answer-spec : {M : Type 1} → statement M
 put-answer-spec =

@@ -1,5 +1,5 @@
 -- `push_argument` meets its contract.
--- By whether the push is heard.
+-- By whether the push is skipped.
 use Rattle.tokens.specs.Sheet.{pushes}
 use borrow.Author.Needs.{needs}
 use Rattle.expressions.proofs.arguments.push_argument.Statement.{statement}

@@ -35,8 +35,8 @@ loop-holds c = (refl, refl, refl, refl)
 sub-j : tie.Need-sub-j Inv-loop μ-loop
 sub-j c = search needs
 
-is-heard-requires : tie.Need-is-heard-requires Inv-loop μ-loop
-is-heard-requires c κs = search needs
+is-unskipped-requires : tie.Need-is-unskipped-requires Inv-loop μ-loop
+is-unskipped-requires c κs = search needs
 
 same-length : tie.Need-same-length Inv-loop μ-loop
 same-length c = search needs
@@ -48,10 +48,10 @@ same-length-3 : tie.Need-same-length-3 Inv-loop μ-loop
 same-length-3 c = search needs
 
 returns : tie.Need-returns Inv-loop μ-loop
-returns c = done _ _ _ (back-stop _ _ _ (c .before .before .before .loop .k) (c .before .before .before .before .before .before .before .before .before .before .before .before .args .h) (c .before .before .before .before .before .before .before .before .before .before .before .before .args .rec .now) (c .before .before .before .loop .comma) _ (c .before .before .loop-test .taken) (c .before .is-heard .ensures) (c .if1 .taken)) (c .before .before .before .loop .inv .3) ∙ ap (pushes _) (ap (λ (x : List ℕ). pushed (c .before .before .before .before .before .before .before .before .before .before .before .before .args .h) (c .before .before .before .before .before .before .before .before .before .before .before .before .args .rec .now) false (pushesBack ((c .before .before .before .before .before .before .before .before .before .before .before .before .args .h) .frame) x (c .before .before .before .before .before .before .before .before .before .before .before .before .args .first) ((c .before .before .before .before .before .before .before .before .before .before .before .before .args .i) - (c .before .before .before .before .before .before .before .before .before .before .before .before .args .first)))) ((c .before .before .before .before .from .ensures .0) ∙ ap (λ (x : ℕ). drop x (c .before .before .before .before .before .before .before .before .before .before .before .before .args .rec .now)) (c .before .before .before .before .before .bodies-at .ensures .0)))
+returns c = done _ _ _ (back-stop _ _ _ (c .before .before .before .loop .k) (c .before .before .before .before .before .before .before .before .before .before .before .before .args .h) (c .before .before .before .before .before .before .before .before .before .before .before .before .args .rec .now) (c .before .before .before .loop .comma) _ (c .before .before .loop-test .taken) (c .before .is-unskipped .ensures) (c .if1 .taken)) (c .before .before .before .loop .inv .3) ∙ ap (pushes _) (ap (λ (x : List ℕ). pushed (c .before .before .before .before .before .before .before .before .before .before .before .before .args .h) (c .before .before .before .before .before .before .before .before .before .before .before .before .args .rec .now) false (pushesBack ((c .before .before .before .before .before .before .before .before .before .before .before .before .args .h) .frame) x (c .before .before .before .before .before .before .before .before .before .before .before .before .args .first) ((c .before .before .before .before .before .before .before .before .before .before .before .before .args .i) - (c .before .before .before .before .before .before .before .before .before .before .before .before .args .first)))) ((c .before .before .before .before .from .ensures .0) ∙ ap (λ (x : ℕ). drop x (c .before .before .before .before .before .before .before .before .before .before .before .before .args .rec .now)) (c .before .before .before .before .before .bodies-at .ensures .0)))
 
-is-heard-requires-2 : tie.Need-is-heard-requires-2 Inv-loop μ-loop
-is-heard-requires-2 c κs = search needs
+is-unskipped-requires-2 : tie.Need-is-unskipped-requires-2 Inv-loop μ-loop
+is-unskipped-requires-2 c κs = search needs
 
 body-at-requires : tie.Need-body-at-requires Inv-loop μ-loop
 body-at-requires c κs = search needs
@@ -68,7 +68,7 @@ loop-again c = (
   omega (arith, (c .before .before .before .before .before .before .push-argument .kept .1 .0), (c .before .before .before .before .before .before .before .before .before .before .before .before .before .before .before .loop .inv .1)),
   omega (arith, (c .before .before .before .before .before .before .push-argument .kept .1 .1 .0), (c .before .before .before .before .before .before .before .before .before .before .before .before .before .before .before .loop .inv .2)),
   turn _ _ _ _ _ _
-      (back-turn (c .before .before .before .before .before .before .before .before .before .before .before .before .before .before .before .before .before .before .before .before .before .before .before .before .args .h) (c .before .before .before .before .before .before .before .before .before .before .before .before .before .before .before .before .before .before .before .before .before .before .before .before .args .rec .now) _ _ ((c .before .before .before .before .before .before .before .before .before .before .before .before .before .before .before .before .from .ensures .0) ∙ ap (λ (x : ℕ). drop x (c .before .before .before .before .before .before .before .before .before .before .before .before .before .before .before .before .before .before .before .before .before .before .before .before .args .rec .now)) (c .before .before .before .before .before .before .before .before .before .before .before .before .before .before .before .before .before .bodies-at .ensures .0)) _ (c .before .before .before .before .before .before .before .before .before .before .before .before .before .before .before .loop .k) (c .before .before .before .before .before .before .before .before .before .before .before .before .before .before .loop-test .taken) (c .before .before .before .before .before .before .before .before .before .before .before .before .before .before .before .loop .comma) _ _ (c .before .before .before .before .before .before .before .before .before .before .before .before .before .is-heard .ensures) (c .before .before .before .before .before .before .before .before .before .before .before .before .if1 .left) (c .before .before .before .before .before .before .before .before .before .before .before .is-heard2 .ensures) _ (c .before .before .before .before .before .before .before .before .before .before .body-at .ensures))
+      (back-turn (c .before .before .before .before .before .before .before .before .before .before .before .before .before .before .before .before .before .before .before .before .before .before .before .before .args .h) (c .before .before .before .before .before .before .before .before .before .before .before .before .before .before .before .before .before .before .before .before .before .before .before .before .args .rec .now) _ _ ((c .before .before .before .before .before .before .before .before .before .before .before .before .before .before .before .before .from .ensures .0) ∙ ap (λ (x : ℕ). drop x (c .before .before .before .before .before .before .before .before .before .before .before .before .before .before .before .before .before .before .before .before .before .before .before .before .args .rec .now)) (c .before .before .before .before .before .before .before .before .before .before .before .before .before .before .before .before .before .bodies-at .ensures .0)) _ (c .before .before .before .before .before .before .before .before .before .before .before .before .before .before .before .loop .k) (c .before .before .before .before .before .before .before .before .before .before .before .before .before .before .loop-test .taken) (c .before .before .before .before .before .before .before .before .before .before .before .before .before .before .before .loop .comma) _ _ (c .before .before .before .before .before .before .before .before .before .before .before .before .before .is-unskipped .ensures) (c .before .before .before .before .before .before .before .before .before .before .before .before .if1 .left) (c .before .before .before .before .before .before .before .before .before .before .before .is-unskipped2 .ensures) _ (c .before .before .before .before .before .before .before .before .before .before .body-at .ensures))
       (c .before .before .before .before .before .before .push-argument .ensures) (c .before .before .before .before .before .before .before .before .before .before .before .before .before .before .before .loop .inv .3),
 )
 
@@ -94,12 +94,12 @@ pushed-arguments-spec =
     from-requires
     loop-holds
     sub-j
-    is-heard-requires
+    is-unskipped-requires
     same-length
     same-length-2
     same-length-3
     returns
-    is-heard-requires-2
+    is-unskipped-requires-2
     body-at-requires
     push-argument-requires
     loop-less

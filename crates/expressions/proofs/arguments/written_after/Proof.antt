@@ -1,13 +1,12 @@
 -- `written_after` meets its contract.
 -- By whether the instruction is a call, or has a register first.
-use mathlib.Core.Path.{_≡_, sym, ap, _∙_}
+use mathlib.Core.Path.{sym, ap, _∙_}
 use Rattle.x86.specs.Registers.{fullRegister}
 use Rattle.x86.specs.Conventions.{withWritten}
 use Rattle.expressions.proofs.Written.{writes}
 use borrow.Author.Needs.{needs}
-use borrow.Author.Tests.{eq-eqb, ne-eqb, le-leb, lt-leb, lt-ltb, le-ltb}
+use borrow.Author.Tests.{eq-eqb, ne-eqb}
 use Rattle.expressions.specs.Arguments.{writtenAfter}
-use borrow.Author.Needs.{needs}
 use Rattle.expressions.proofs.arguments.written_after.Statement.{statement}
 use Rattle.expressions.proofs.arguments.written_after.Tie as tie
 

@@ -1,9 +1,7 @@
 -- `after_other` meets its contract.
 -- By whether the table has a relation for the condition.
-use mathlib.Core.Path.{_≡_, refl, sym, _∙_}
 use borrow.Author.Needs.{needs}
 use Rattle.expressions.proofs.Relations.{related, none-other}
-use borrow.Author.Needs.{needs}
 use Rattle.expressions.proofs.condition.after_other.Statement.{statement}
 use Rattle.expressions.proofs.condition.after_other.Tie as tie
 

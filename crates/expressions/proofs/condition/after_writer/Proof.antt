@@ -1,9 +1,7 @@
 -- `after_writer` meets its contract.
 -- By which writer it is.
-use mathlib.Core.Path.{_≡_, refl, sym, _∙_}
 use borrow.Author.Needs.{needs}
 use Rattle.expressions.proofs.Relations.{by-cmp, by-test, by-other}
-use borrow.Author.Needs.{needs}
 use Rattle.expressions.proofs.condition.after_writer.Statement.{statement}
 use Rattle.expressions.proofs.condition.after_writer.Tie as tie
 

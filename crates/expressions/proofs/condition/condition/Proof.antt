@@ -1,12 +1,10 @@
 -- `condition` meets its contract.
 -- By whether there is a flag writer.
-use mathlib.Core.Path.{_≡_, refl, sym, _∙_}
+use mathlib.Core.Path.{_∙_, ap}
 use borrow.Author.Needs.{needs}
 use Rattle.expressions.proofs.Relations.{at-writer, at-none}
-use mathlib.Core.Path.{ap}
 use Prim.Native.Nat.{ℕ}
 use lib.ListN.{drop}
-use borrow.Author.Needs.{needs}
 use Rattle.expressions.proofs.condition.condition.Statement.{statement}
 use Rattle.expressions.proofs.condition.condition.Tie as tie
 

@@ -2,7 +2,6 @@
 -- The invariant: what is left to search has the same answer as the whole.
 use mathlib.Core.Path.{_≡_, sym, _∙_}
 use Prim.Native.Nat.{_≤_, _-_}
-use native.Mathlib.Omega.{arith}
 use borrow.Author.Needs.{needs}
 use Rattle.expressions.specs.Condition.{flagWriter}
 use Rattle.expressions.proofs.Search.{writer-step, writer-none}

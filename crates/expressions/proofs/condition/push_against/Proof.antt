@@ -1,9 +1,8 @@
 -- `push_against` meets its contract.
 -- The word of the operator is its text.
-use mathlib.Core.Path.{_≡_, refl, sym, _∙_}
+use mathlib.Core.Path.{refl}
 use borrow.Author.Needs.{needs}
 use Rattle.expressions.proofs.Relations.{one, then}
-use borrow.Author.Needs.{needs}
 use Rattle.expressions.proofs.condition.push_against.Statement.{statement}
 use Rattle.expressions.proofs.condition.push_against.Tie as tie
 
@@ -26,7 +25,7 @@ same-length-3 : tie.Need-same-length-3
 same-length-3 c = search needs
 
 returns : tie.Need-returns
-returns c = then _ _ _ (c .before .before .before .before .before .before .before .before .before .before .before .before .before .before .before .before .before .before .before .before .before .before .before .before .before .before .args .relation) _ (c .before .before .before .before .before .before .before .before .before .before .before .before .before .before .before .before .before .before .before .before .before .before .before .before .before .before .pre .1) (c .before .before .before .before .before .before .before .before .before .before .before .before .before .before .before .before .push-word .ensures) (one _ _ _ _ refl (c .before .before .before .before .before .before .push-num .ensures))
+returns c = then _ _ _ (c .before .before .before .before .before .before .before .before .before .before .before .before .before .before .before .before .before .before .before .before .before .before .before .before .args .relation) _ (c .before .before .before .before .before .before .before .before .before .before .before .before .before .before .before .before .before .before .before .before .before .before .before .before .pre .1) (c .before .before .before .before .before .before .before .before .before .before .before .before .before .before .before .before .push-word .ensures) (one _ _ _ _ refl (c .before .before .before .before .before .before .push-num .ensures))
 
 pub push-against-spec : {M : Type 1} → statement M
 push-against-spec =

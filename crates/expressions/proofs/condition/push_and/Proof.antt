@@ -1,9 +1,7 @@
 -- `push_and` meets its contract.
 -- Three pushes, one behind the other.
-use mathlib.Core.Path.{_≡_, refl, sym, _∙_}
 use borrow.Author.Needs.{needs}
 use Rattle.expressions.proofs.Relations.{both}
-use borrow.Author.Needs.{needs}
 use Rattle.expressions.proofs.condition.push_and.Statement.{statement}
 use Rattle.expressions.proofs.condition.push_and.Tie as tie
 

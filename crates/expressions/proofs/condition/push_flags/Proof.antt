@@ -1,11 +1,10 @@
 -- `push_flags` meets its contract.
 -- Past the last word all words are one.
-use mathlib.Core.Path.{_≡_, refl, sym, _∙_}
+use mathlib.Core.Path.{refl}
 use borrow.Author.Needs.{needs}
 use Rattle.expressions.proofs.Relations.{one, word-past}
 use Prim.Native.Nat.{_+_}
 use native.Mathlib.Omega.{arith}
-use borrow.Author.Needs.{needs}
 use Rattle.expressions.proofs.condition.push_flags.Statement.{statement}
 use Rattle.expressions.proofs.condition.push_flags.Tie as tie
 
@@ -40,7 +39,7 @@ same-length-6 : tie.Need-same-length-6
 same-length-6 c = search needs
 
 returns-2 : tie.Need-returns-2
-returns-2 c = one _ _ _ _ (word-past 255 (75 + c .before .before .before .before .before .before .before .before .before .before .before .before .before .before .before .before .before .args .cc) (omega arith) (omega (arith, c .before .before .before .before .before .before .before .before .before .before .if1 .left))) (c .before .before .before .before .before .before .push-word2 .ensures)
+returns-2 c = one _ _ _ _ (word-past 255 (75 + c .before .before .before .before .before .before .before .before .before .before .before .before .before .before .before .args .cc) (omega arith) (omega (arith, c .before .before .before .before .before .before .before .before .before .before .if1 .left))) (c .before .before .before .before .before .before .push-word2 .ensures)
 
 pub push-flags-spec : {M : Type 1} → statement M
 push-flags-spec =

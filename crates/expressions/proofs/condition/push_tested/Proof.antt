@@ -1,9 +1,7 @@
 -- `push_tested` meets its contract.
 -- By whether the operands print alike.
-use mathlib.Core.Path.{_≡_, refl, sym, _∙_}
 use borrow.Author.Needs.{needs}
 use Rattle.expressions.proofs.Relations.{tested-one, tested-both}
-use borrow.Author.Needs.{needs}
 use Rattle.expressions.proofs.condition.push_tested.Statement.{statement}
 use Rattle.expressions.proofs.condition.push_tested.Tie as tie
 

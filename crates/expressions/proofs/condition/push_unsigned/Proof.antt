@@ -1,9 +1,7 @@
 -- `push_unsigned` meets its contract.
 -- By whether the relation is one of unsigned numbers.
-use mathlib.Core.Path.{_≡_, refl, sym, _∙_}
 use borrow.Author.Needs.{needs}
 use Rattle.expressions.proofs.Relations.{as-unsigned, as-it-is}
-use borrow.Author.Needs.{needs}
 use Rattle.expressions.proofs.condition.push_unsigned.Statement.{statement}
 use Rattle.expressions.proofs.condition.push_unsigned.Tie as tie
 

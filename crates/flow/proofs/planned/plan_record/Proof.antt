@@ -6,10 +6,10 @@ use mathlib.Core.Path.{_≡_}
 use native.Mathlib.Omega.{arith}
 use Rattle.structure.specs.Plan.{planCodes}
 use Rattle.structure.specs.Stored.{Stored}
-use Rattle.flow.specs.Laws.{filled}
+use Rattle.flow.proofs.Laws.{filled}
 use Rattle.flow.specs.Rows.{edgeRows, shownRows}
-use Rattle.flow.specs.Terms.{edges-length, shown-length}
-use Rattle.flow.specs.Counted.{limits-small}
+use Rattle.flow.proofs.Terms.{edges-length, shown-length}
+use Rattle.flow.proofs.Totals.{limits-small}
 use Rattle.flow.specs.Planned.{recordPlan}
 use Rattle.flow.proofs.Row.{array}
 use borrow.Author.Needs.{needs}

@@ -5,14 +5,14 @@ use borrow.Author.Needs.{needs}
 use Rattle.flow.proofs.rows.shown_of.Statement.{statement}
 use Rattle.flow.proofs.rows.shown_of.Tie as tie
 
-is-quiet-requires : tie.Need-is-quiet-requires
-is-quiet-requires c κs = search needs
+is-silent-itself-requires : tie.Need-is-silent-itself-requires
+is-silent-itself-requires c κs = search needs
 
 returns : tie.Need-returns
-returns c = simp (sym (c .before .is-quiet .ensures), c .if1 .taken)
+returns c = simp (sym (c .before .is-silent-itself .ensures), c .if1 .taken)
 
 returns-2 : tie.Need-returns-2
-returns-2 c = simp (sym (c .before .is-quiet .ensures), c .if1 .left)
+returns-2 c = simp (sym (c .before .is-silent-itself .ensures), c .if1 .left)
 
 pub shown-of-spec : {M : Type 1} → statement M
-shown-of-spec = tie.close (tie.spec is-quiet-requires returns returns-2)
+shown-of-spec = tie.close (tie.spec is-silent-itself-requires returns returns-2)

@@ -5,7 +5,9 @@ use mathlib.Core.Bool.{Bool, _&&_}
 use mathlib.Core.List.{List}
 use mathlib.Core.Path.{_≡_, sym, _∙_}
 use borrow.Author.Tests.{ne-eqb}
-use Rattle.flow.specs.Silent.{mov, lea, isSp, registerFirst, movesFrame, isPrologueNoise}
+use Rattle.x86.specs.Mnemonics.{mov, lea}
+use Rattle.x86.specs.Registers.{isStackPointer}
+use Rattle.flow.specs.Silent.{registerFirst, movesFrame, isPrologueNoise}
 use Rattle.record.specs.Body.{mnemonicOf, operandRegister}
 use borrow.Author.Needs.{needs}
 use Rattle.flow.proofs.silent.is_prologue_noise.Statement.{statement}
@@ -15,7 +17,7 @@ noise-mov : (frame : ℕ) (b : List ℕ) {x y : Bool} → x ≡ registerFirst b 
 unfolding isPrologueNoise
 noise-mov frame b p q e = rw (e, p, q)
 
-noise-lea : (frame : ℕ) (b : List ℕ) {x y : Bool} {r : ℕ} → x ≡ registerFirst b → y ≡ isSp r → r ≡ operandRegister b 0 → mnemonicOf b ≡ lea → (x && y) ≡ isPrologueNoise frame b
+noise-lea : (frame : ℕ) (b : List ℕ) {x y : Bool} {r : ℕ} → x ≡ registerFirst b → y ≡ isStackPointer r → r ≡ operandRegister b 0 → mnemonicOf b ≡ lea → (x && y) ≡ isPrologueNoise frame b
 unfolding isPrologueNoise
 noise-lea frame b p q s e = rw (e, p, q, s)
 
@@ -49,8 +51,8 @@ register-first-requires-2 c κs = search needs
 op-register-requires-2 : tie.Need-op-register-requires-2
 op-register-requires-2 c κs = search needs
 
-is-sp-requires : tie.Need-is-sp-requires
-is-sp-requires c κs = search needs
+is-stack-pointer-requires : tie.Need-is-stack-pointer-requires
+is-stack-pointer-requires c κs = search needs
 
 op-kind-requires : tie.Need-op-kind-requires
 op-kind-requires c κs = search needs
@@ -60,7 +62,7 @@ unfolding isPrologueNoise
 returns-2 c =
     let q = c .before .before .before .before in
     let p = q .before .before in
-    simp (sym (p .before .before .mnemonic .ensures), sym (p .before .either .ensures), p .if1 .left, sym (q .before .either2 .ensures), q .if2 .taken, c .op-kind .ensures, c .before .is-sp .ensures, c .before .before .op-register2 .ensures, c .before .before .before .register-first2 .ensures)
+    simp (sym (p .before .before .mnemonic .ensures), sym (p .before .either .ensures), p .if1 .left, sym (q .before .either2 .ensures), q .if2 .taken, c .op-kind .ensures, c .before .is-stack-pointer .ensures, c .before .before .op-register2 .ensures, c .before .before .before .register-first2 .ensures)
 
 register-first-requires-3 : tie.Need-register-first-requires-3
 register-first-requires-3 c κs = search needs
@@ -79,13 +81,13 @@ register-first-requires-4 c κs = search needs
 op-register-requires-3 : tie.Need-op-register-requires-3
 op-register-requires-3 c κs = search needs
 
-is-sp-requires-2 : tie.Need-is-sp-requires-2
-is-sp-requires-2 c κs = search needs
+is-stack-pointer-requires-2 : tie.Need-is-stack-pointer-requires-2
+is-stack-pointer-requires-2 c κs = search needs
 
 returns-4 : tie.Need-returns-4
 returns-4 c =
     let m = c .before .before .before .before .before .before .before .before .before .mnemonic .ensures in
-    noise-lea _ _ (c .before .before .register-first4 .ensures) (c .is-sp2 .ensures) (c .before .op-register3 .ensures) (sym m ∙ c .before .before .before .if4 .taken)
+    noise-lea _ _ (c .before .before .register-first4 .ensures) (c .is-stack-pointer2 .ensures) (c .before .op-register3 .ensures) (sym m ∙ c .before .before .before .if4 .taken)
 
 is-padding-requires : tie.Need-is-padding-requires
 is-padding-requires c κs = search needs
@@ -112,7 +114,7 @@ is-prologue-noise-spec =
     either-requires-2
     register-first-requires-2
     op-register-requires-2
-    is-sp-requires
+    is-stack-pointer-requires
     op-kind-requires
     returns-2
     register-first-requires-3
@@ -120,7 +122,7 @@ is-prologue-noise-spec =
     returns-3
     register-first-requires-4
     op-register-requires-3
-    is-sp-requires-2
+    is-stack-pointer-requires-2
     returns-4
     is-padding-requires
     returns-5)

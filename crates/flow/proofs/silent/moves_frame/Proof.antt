@@ -16,16 +16,16 @@ op-kind-requires c κs = search needs
 op-register-requires-2 : tie.Need-op-register-requires-2
 op-register-requires-2 c κs = search needs
 
-is-sp-requires : tie.Need-is-sp-requires
-is-sp-requires c κs = search needs
+is-stack-pointer-requires : tie.Need-is-stack-pointer-requires
+is-stack-pointer-requires c κs = search needs
 
-is-sp-requires-2 : tie.Need-is-sp-requires-2
-is-sp-requires-2 c κs = search needs
+is-stack-pointer-requires-2 : tie.Need-is-stack-pointer-requires-2
+is-stack-pointer-requires-2 c κs = search needs
 
 returns : tie.Need-returns
 returns c =
     let k = c .before .before .before in
-    simp (c .is-sp2 .ensures, c .before .is-sp .ensures, c .before .before .op-register2 .ensures, k .op-kind .ensures, k .before .op-register .ensures)
+    simp (c .is-stack-pointer2 .ensures, c .before .is-stack-pointer .ensures, c .before .before .op-register2 .ensures, k .op-kind .ensures, k .before .op-register .ensures)
 
 pub moves-frame-spec : {M : Type 1} → statement M
 moves-frame-spec =
@@ -35,6 +35,6 @@ moves-frame-spec =
     cast-result
     op-kind-requires
     op-register-requires-2
-    is-sp-requires
-    is-sp-requires-2
+    is-stack-pointer-requires
+    is-stack-pointer-requires-2
     returns)

@@ -1,10 +1,9 @@
 -- `cast_form` meets its contract.
 -- By the mnemonic and the width of the first operand.
-use mathlib.Core.Path.{_≡_, sym}
+use mathlib.Core.Path.{sym}
 use borrow.Author.Needs.{needs}
-use borrow.Author.Tests.{eq-eqb, ne-eqb, le-leb, lt-leb, lt-ltb, le-ltb}
+use borrow.Author.Tests.{eq-eqb, ne-eqb}
 use Rattle.line.specs.Forms.{castForm}
-use borrow.Author.Needs.{needs}
 use Rattle.line.proofs.forms.cast_form.Statement.{statement}
 use Rattle.line.proofs.forms.cast_form.Tie as tie
 

@@ -1,8 +1,6 @@
 -- `imul_form` meets its contract.
 -- By the number of operands.
-use mathlib.Core.Path.{_≡_, sym}
-use borrow.Author.Needs.{needs}
-use borrow.Author.Tests.{eq-eqb, ne-eqb, le-leb, lt-leb, lt-ltb, le-ltb}
+use borrow.Author.Tests.{eq-eqb, ne-eqb, le-leb, lt-leb}
 use Rattle.line.specs.Forms.{imulForm}
 use Rattle.line.proofs.forms.imul_form.Statement.{statement}
 use Rattle.line.proofs.forms.imul_form.Tie as tie

@@ -1,8 +1,5 @@
 -- `is_and_zero` meets its contract.
 -- The answer is the test itself, of what the readers ensure.
-use mathlib.Core.Path.{_≡_, sym}
-use borrow.Author.Needs.{needs}
-use borrow.Author.Tests.{eq-eqb, ne-eqb, le-leb, lt-leb, lt-ltb, le-ltb}
 use borrow.Author.Needs.{needs}
 use Rattle.line.proofs.forms.is_and_zero.Statement.{statement}
 use Rattle.line.proofs.forms.is_and_zero.Tie as tie

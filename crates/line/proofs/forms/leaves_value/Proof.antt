@@ -1,10 +1,7 @@
 -- `leaves_value` meets its contract.
 -- The answer is the test itself, of what the readers ensure.
-use mathlib.Core.Path.{_≡_, sym}
 use borrow.Author.Needs.{needs}
-use borrow.Author.Tests.{eq-eqb, ne-eqb, le-leb, lt-leb, lt-ltb, le-ltb}
 use Rattle.line.specs.Forms.{leavesValue}
-use borrow.Author.Needs.{needs}
 use Rattle.line.proofs.forms.leaves_value.Statement.{statement}
 use Rattle.line.proofs.forms.leaves_value.Tie as tie
 

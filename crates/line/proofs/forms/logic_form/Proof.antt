@@ -1,10 +1,8 @@
 -- `logic_form` meets its contract.
 -- By the tests in order.
-use mathlib.Core.Path.{_≡_, sym}
+use mathlib.Core.Path.{sym}
 use borrow.Author.Needs.{needs}
-use borrow.Author.Tests.{eq-eqb, ne-eqb, le-leb, lt-leb, lt-ltb, le-ltb}
 use Rattle.line.specs.Forms.{logicForm}
-use borrow.Author.Needs.{needs}
 use Rattle.line.proofs.forms.logic_form.Statement.{statement}
 use Rattle.line.proofs.forms.logic_form.Tie as tie
 

@@ -3,7 +3,6 @@
 use borrow.Author.Tests.{lt-ltb, le-ltb}
 use borrow.Author.Needs.{needs}
 use Rattle.line.specs.Forms.{plainForm}
-use borrow.Author.Needs.{needs}
 use Rattle.line.proofs.forms.plain_form.Statement.{statement}
 use Rattle.line.proofs.forms.plain_form.Tie as tie
 

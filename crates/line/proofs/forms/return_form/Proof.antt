@@ -1,8 +1,5 @@
 -- `return_form` meets its contract.
 -- By whether a value is returned.
-use mathlib.Core.Path.{_≡_, sym}
-use borrow.Author.Needs.{needs}
-use borrow.Author.Tests.{eq-eqb, ne-eqb, le-leb, lt-leb, lt-ltb, le-ltb}
 use Rattle.line.specs.Forms.{returnForm}
 use Rattle.line.proofs.forms.return_form.Statement.{statement}
 use Rattle.line.proofs.forms.return_form.Tie as tie

@@ -1,10 +1,9 @@
 -- `value_before` meets its contract.
 -- By whether the instruction is of the block.
-use mathlib.Core.Path.{_≡_, sym}
+use mathlib.Core.Path.{sym}
 use borrow.Author.Needs.{needs}
-use borrow.Author.Tests.{eq-eqb, ne-eqb, le-leb, lt-leb, lt-ltb, le-ltb}
+use borrow.Author.Tests.{lt-ltb, le-ltb}
 use Rattle.line.specs.Forms.{valueBefore}
-use borrow.Author.Needs.{needs}
 use Rattle.line.proofs.forms.value_before.Statement.{statement}
 use Rattle.line.proofs.forms.value_before.Tie as tie
 

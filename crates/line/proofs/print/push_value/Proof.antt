@@ -3,7 +3,7 @@
 use mathlib.Core.Path.{ap, _∙_}
 use Rattle.tokens.specs.Sheet.{pushes}
 use native.Mathlib.Omega.{arith}
-use Rattle.line.proofs.Pieces.{is-address, is-nought, is-ones}
+use Rattle.line.proofs.Pieces.{is-address, is-zeros, is-ones}
 use borrow.Author.Needs.{needs}
 use Rattle.line.proofs.print.push_value.Statement.{statement}
 use Rattle.line.proofs.print.push_value.Tie as tie
@@ -37,7 +37,7 @@ same-length-6 c = search needs
 
 returns-2 : tie.Need-returns-2
 unfolding pushes
-returns-2 c = (c .before .before .before .before .before .before .push-num .ensures) ∙ ap (pushes _) (is-nought (c .before .before .before .before .before .before .before .before .before .before .before .before .before .before .before .before .before .before .before .args .h) (c .before .before .before .before .before .before .before .before .before .before .before .before .before .before .before .before .before .before .before .args .rec .now) (c .before .before .before .before .before .before .before .before .before .before .before .before .before .before .before .before .before .before .before .args .site) (c .before .before .before .before .before .before .before .before .before .before .before .before .before .before .before .before .before .before .before .args .piece) (c .before .before .before .before .before .before .before .before .before .before .if2 .taken))
+returns-2 c = (c .before .before .before .before .before .before .push-num .ensures) ∙ ap (pushes _) (is-zeros (c .before .before .before .before .before .before .before .before .before .before .before .before .before .before .before .before .before .before .before .args .h) (c .before .before .before .before .before .before .before .before .before .before .before .before .before .before .before .before .before .before .before .args .rec .now) (c .before .before .before .before .before .before .before .before .before .before .before .before .before .before .before .before .before .before .before .args .site) (c .before .before .before .before .before .before .before .before .before .before .before .before .before .before .before .before .before .before .before .args .piece) (c .before .before .before .before .before .before .before .before .before .before .if2 .taken))
 
 push-num-requires-2 : tie.Need-push-num-requires-2
 push-num-requires-2 c κs = search needs

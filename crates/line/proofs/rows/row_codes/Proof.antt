@@ -5,7 +5,6 @@ use Prim.Native.Nat.{ℕ, _+_, _*_}
 use borrow.Author.Needs.{needs}
 use lib.ListN.{getD, take, drop}
 use Rattle.line.proofs.RowTable.{codes-in}
-use borrow.Author.Needs.{needs}
 use Rattle.line.proofs.rows.row_codes.Statement.{statement}
 use Rattle.line.proofs.rows.row_codes.Tie as tie
 

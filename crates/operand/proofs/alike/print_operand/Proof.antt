@@ -3,7 +3,7 @@
 use native.Mathlib.Omega.{arith}
 use Rattle.operand.specs.Bounds.{AllBytes, op-short, op-few}
 use Rattle.operand.proofs.Integers.{small32}
-use Rattle.operand.proofs.Printing.{printed}
+use Rattle.operand.proofs.Printing.{text-stored}
 use borrow.Author.Needs.{needs}
 use Rattle.operand.proofs.alike.print_operand.Statement.{statement}
 use Rattle.operand.proofs.alike.print_operand.Tie as tie
@@ -29,7 +29,7 @@ returns c =
     let rec : AllBytes (s .args .rec .now) = λ k. omega (arith, c .before .before .before .before .before .before .before .before .before .before .shared-slice-known3 .given k) in
     let body : AllBytes (s .args .body .now) = λ k. omega (arith, c .before .before .before .before .before .before .before .before .before .shared-slice-known4 .given k) in
     let shift = small32 (s .args .h .shift) (record { sfits = s .good .1 .1 .1 .1 .0 .1 .1 .1 .1 .1 .1 .1 .1 .1 .1 .0 .1 }) in
-    printed _ _ (c .before .before .before .before .op .last .0) _ _ _ _ _ _ (op-short (s .args .h) _ _ (s .args .i) rec body shift) (op-few (s .args .h) _ _ (s .args .i) rec body shift) (c .before .before .before .before .before .first-pen .ensures) (c .before .before .before .before .op .ensures)
+    text-stored _ _ (c .before .before .before .before .op .last .0) _ _ _ _ _ _ (op-short (s .args .h) _ _ (s .args .i) rec body shift) (op-few (s .args .h) _ _ (s .args .i) rec body shift) (c .before .before .before .before .before .first-pen .ensures) (c .before .before .before .before .op .ensures)
 
 pub print-operand-spec : {M : Type 1} → statement M
 print-operand-spec =

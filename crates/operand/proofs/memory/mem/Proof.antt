@@ -78,7 +78,7 @@ same-length-12 c = search needs
 
 returns-4 : tie.Need-returns-4
 returns-4 c =
-    c .before .before .before .before .before .before .push-read .ensures ∙ ap (pushes _) (is-read (c .before .before .before .before .before .before .before .before .before .before .before .before .before .before .before .before .before .before .before .before .before .before .before .before .args .h) (c .before .before .before .before .before .before .before .before .before .before .before .before .before .before .before .before .before .before .before .before .before .before .before .before .args .rec .now) (c .before .before .before .before .before .before .before .before .before .before .before .before .before .before .before .before .before .before .before .before .before .before .before .before .args .body .now) (c .before .before .before .before .before .before .before .before .before .before .before .before .before .before .before .before .before .before .before .before .before .before .before .before .args .deref) (c .before .before .before .before .before .before .before .before .before .before .if4 .taken) ∙ is-address (c .before .before .before .before .before .before .before .before .before .before .before .before .before .before .before .before .before .before .before .before .before .before .before .before .args .h) (c .before .before .before .before .before .before .before .before .before .before .before .before .before .before .before .before .before .before .before .before .before .before .before .before .args .rec .now) (c .before .before .before .before .before .before .before .before .before .before .before .before .before .before .before .before .before .before .before .before .before .before .before .before .args .body .now) (c .before .before .before .before .before .before .before .before .before .before .before .before .before .before .before .before .before .before .before .before .before .before .before .before .args .deref) (made _ _ _ (c .before .before .before .before .before .before .before .before .before .before .before .before .before .before .before .before .is-segment-read .ensures) (c .before .before .before .before .before .before .before .before .before .before .before .before .before .before .before .if1 .left)) (made _ _ _ (c .before .before .before .before .before .before .before .before .before .before .before .before .before .before .is-global .ensures) (c .before .before .before .before .before .before .before .before .before .before .before .before .before .if2 .left)) (made _ _ _ (c .before .before .before .before .before .before .before .before .before .before .before .before .is-slot .ensures) (c .before .before .before .before .before .before .before .before .before .before .before .if3 .left)))
+    c .before .before .before .before .before .before .push-read .ensures ∙ ap (pushes _) (is-read (c .before .before .before .before .before .before .before .before .before .before .before .before .before .before .before .before .before .before .before .before .before .before .before .before .args .h) (c .before .before .before .before .before .before .before .before .before .before .before .before .before .before .before .before .before .before .before .before .before .before .before .before .args .body .now) (c .before .before .before .before .before .before .before .before .before .before .before .before .before .before .before .before .before .before .before .before .before .before .before .before .args .deref) (c .before .before .before .before .before .before .before .before .before .before .if4 .taken) ∙ is-address (c .before .before .before .before .before .before .before .before .before .before .before .before .before .before .before .before .before .before .before .before .before .before .before .before .args .h) (c .before .before .before .before .before .before .before .before .before .before .before .before .before .before .before .before .before .before .before .before .before .before .before .before .args .rec .now) (c .before .before .before .before .before .before .before .before .before .before .before .before .before .before .before .before .before .before .before .before .before .before .before .before .args .body .now) (c .before .before .before .before .before .before .before .before .before .before .before .before .before .before .before .before .before .before .before .before .before .before .before .before .args .deref) (made _ _ _ (c .before .before .before .before .before .before .before .before .before .before .before .before .before .before .before .before .is-segment-read .ensures) (c .before .before .before .before .before .before .before .before .before .before .before .before .before .before .before .if1 .left)) (made _ _ _ (c .before .before .before .before .before .before .before .before .before .before .before .before .before .before .is-global .ensures) (c .before .before .before .before .before .before .before .before .before .before .before .before .before .if2 .left)) (made _ _ _ (c .before .before .before .before .before .before .before .before .before .before .before .before .is-slot .ensures) (c .before .before .before .before .before .before .before .before .before .before .before .if3 .left)))
 
 push-address-requires : tie.Need-push-address-requires
 push-address-requires c κs = search needs
@@ -94,7 +94,7 @@ same-length-15 c = search needs
 
 returns-5 : tie.Need-returns-5
 returns-5 c =
-    c .before .before .before .before .before .before .push-address .ensures ∙ ap (pushes _) (is-plain (c .before .before .before .before .before .before .before .before .before .before .before .before .before .before .before .before .before .before .before .before .before .before .before .before .args .h) (c .before .before .before .before .before .before .before .before .before .before .before .before .before .before .before .before .before .before .before .before .before .before .before .before .args .rec .now) (c .before .before .before .before .before .before .before .before .before .before .before .before .before .before .before .before .before .before .before .before .before .before .before .before .args .body .now) (c .before .before .before .before .before .before .before .before .before .before .before .before .before .before .before .before .before .before .before .before .before .before .before .before .args .deref) (c .before .before .before .before .before .before .before .before .before .before .if4 .left) ∙ is-address (c .before .before .before .before .before .before .before .before .before .before .before .before .before .before .before .before .before .before .before .before .before .before .before .before .args .h) (c .before .before .before .before .before .before .before .before .before .before .before .before .before .before .before .before .before .before .before .before .before .before .before .before .args .rec .now) (c .before .before .before .before .before .before .before .before .before .before .before .before .before .before .before .before .before .before .before .before .before .before .before .before .args .body .now) (c .before .before .before .before .before .before .before .before .before .before .before .before .before .before .before .before .before .before .before .before .before .before .before .before .args .deref) (made _ _ _ (c .before .before .before .before .before .before .before .before .before .before .before .before .before .before .before .before .is-segment-read .ensures) (c .before .before .before .before .before .before .before .before .before .before .before .before .before .before .before .if1 .left)) (made _ _ _ (c .before .before .before .before .before .before .before .before .before .before .before .before .before .before .is-global .ensures) (c .before .before .before .before .before .before .before .before .before .before .before .before .before .if2 .left)) (made _ _ _ (c .before .before .before .before .before .before .before .before .before .before .before .before .is-slot .ensures) (c .before .before .before .before .before .before .before .before .before .before .before .if3 .left)))
+    c .before .before .before .before .before .before .push-address .ensures ∙ ap (pushes _) (is-plain (c .before .before .before .before .before .before .before .before .before .before .before .before .before .before .before .before .before .before .before .before .before .before .before .before .args .h) (c .before .before .before .before .before .before .before .before .before .before .before .before .before .before .before .before .before .before .before .before .before .before .before .before .args .body .now) (c .before .before .before .before .before .before .before .before .before .before .before .before .before .before .before .before .before .before .before .before .before .before .before .before .args .deref) (c .before .before .before .before .before .before .before .before .before .before .if4 .left) ∙ is-address (c .before .before .before .before .before .before .before .before .before .before .before .before .before .before .before .before .before .before .before .before .before .before .before .before .args .h) (c .before .before .before .before .before .before .before .before .before .before .before .before .before .before .before .before .before .before .before .before .before .before .before .before .args .rec .now) (c .before .before .before .before .before .before .before .before .before .before .before .before .before .before .before .before .before .before .before .before .before .before .before .before .args .body .now) (c .before .before .before .before .before .before .before .before .before .before .before .before .before .before .before .before .before .before .before .before .before .before .before .before .args .deref) (made _ _ _ (c .before .before .before .before .before .before .before .before .before .before .before .before .before .before .before .before .is-segment-read .ensures) (c .before .before .before .before .before .before .before .before .before .before .before .before .before .before .before .if1 .left)) (made _ _ _ (c .before .before .before .before .before .before .before .before .before .before .before .before .before .before .is-global .ensures) (c .before .before .before .before .before .before .before .before .before .before .before .before .before .if2 .left)) (made _ _ _ (c .before .before .before .before .before .before .before .before .before .before .before .before .is-slot .ensures) (c .before .before .before .before .before .before .before .before .before .before .before .if3 .left)))
 
 pub mem-spec : {M : Type 1} → statement M
 mem-spec =

@@ -28,7 +28,7 @@ same-length-3 c = search needs
 
 returns : tie.Need-returns
 returns c =
-    size-word (c .before .before .before .before .before .before .before .before .before .before .before .before .before .before .before .before .before .before .before .before .before .before .before .before .before .before .before .before .before .args .h) (c .before .before .before .before .before .before .before .before .before .before .before .before .before .before .before .before .before .before .before .before .before .before .before .before .before .before .before .before .before .args .body .now) _ _ _ _ _ (c .before .before .before .before .before .before .before .before .before .before .before .before .before .before .before .before .before .before .before .before .before .before .before .before .before .before .before .before .before .args .rec .now) (c .before .before .before .before .before .before .before .before .before .before .before .before .before .before .before .before .before .before .memory-size .ensures) (c .before .before .before .before .before .before .before .before .before .before .before .before .before .before .before .before .before .type-word .ensures) (c .before .before .before .before .before .before .before .before .before .before .before .before .before .before .before .before .push-word .ensures) (c .before .before .before .before .before .before .push-wrapped-address .ensures)
+    size-word (c .before .before .before .before .before .before .before .before .before .before .before .before .before .before .before .before .before .before .before .before .before .before .before .before .before .before .before .before .args .h) (c .before .before .before .before .before .before .before .before .before .before .before .before .before .before .before .before .before .before .before .before .before .before .before .before .before .before .before .before .args .body .now) _ _ _ _ _ (c .before .before .before .before .before .before .before .before .before .before .before .before .before .before .before .before .before .before .memory-size .ensures) (c .before .before .before .before .before .before .before .before .before .before .before .before .before .before .before .before .before .type-word .ensures) (c .before .before .before .before .before .before .before .before .before .before .before .before .before .before .before .before .push-word .ensures) (c .before .before .before .before .before .before .push-wrapped-address .ensures)
 
 pub push-read-spec : {M : Type 1} → statement M
 push-read-spec =

@@ -34,7 +34,7 @@ same-length-3 c = search needs
 
 returns : tie.Need-returns
 returns c =
-    segment-pushed (c .before .before .before .before .before .before .before .before .before .before .before .before .before .before .before .before .before .before .before .before .before .before .before .before .before .before .before .before .before .before .args .h) (c .before .before .before .before .before .before .before .before .before .before .before .before .before .before .before .before .before .before .before .before .before .before .before .before .before .before .before .before .before .before .args .body .now) _ _ _ _ _ _ _ (c .before .before .before .before .before .before .before .before .before .before .before .before .before .before .before .before .before .before .before .before .before .before .before .before .before .before .before .before .before .before .args .rec .now) (c .before .before .before .before .before .before .before .before .before .before .before .before .before .before .before .before .before .before .before .before .before .before .before .memory-segment .ensures) (c .before .before .before .before .before .before .before .before .before .before .before .before .before .before .before .before .before .before .before .before .before .before .memory-size .ensures) (c .before .before .before .before .before .before .before .before .before .before .before .before .before .before .before .before .before .before .before .before .before .segment-word .ensures) (c .before .before .before .before .before .before .before .before .before .before .before .before .before .before .before .before .before .push-word .ensures) (c .before .before .before .before .before .before .before .memory-address .ensures) (c .before .before .before .before .before .before .push-argument .ensures)
+    segment-pushed (c .before .before .before .before .before .before .before .before .before .before .before .before .before .before .before .before .before .before .before .before .before .before .before .before .before .before .before .before .before .args .body .now) _ _ _ _ _ _ _ (c .before .before .before .before .before .before .before .before .before .before .before .before .before .before .before .before .before .before .before .before .before .before .before .memory-segment .ensures) (c .before .before .before .before .before .before .before .before .before .before .before .before .before .before .before .before .before .before .before .before .before .before .memory-size .ensures) (c .before .before .before .before .before .before .before .before .before .before .before .before .before .before .before .before .before .before .before .before .before .segment-word .ensures) (c .before .before .before .before .before .before .before .before .before .before .before .before .before .before .before .before .before .push-word .ensures) (c .before .before .before .before .before .before .before .memory-address .ensures) (c .before .before .before .before .before .before .push-argument .ensures)
 
 pub push-segment-spec : {M : Type 1} → statement M
 push-segment-spec =

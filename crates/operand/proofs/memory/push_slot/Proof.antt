@@ -1,6 +1,5 @@
 -- `memory::push_slot` meets its contract.
 -- By whether it is read.
-use mathlib.Core.Path.{sym}
 use Rattle.operand.proofs.Pushes.{slot-read, plainly, and-then}
 use borrow.Author.Needs.{needs}
 use Rattle.operand.proofs.memory.push_slot.Statement.{statement}
@@ -12,8 +11,8 @@ slot-number-requires c κs = search needs
 slot-base-requires : tie.Need-slot-base-requires
 slot-base-requires c κs = search needs
 
-is-sp-requires : tie.Need-is-sp-requires
-is-sp-requires c κs = search needs
+is-stack-pointer-requires : tie.Need-is-stack-pointer-requires
+is-stack-pointer-requires c κs = search needs
 
 slot-word-requires : tie.Need-slot-word-requires
 slot-word-requires c κs = search needs
@@ -32,7 +31,7 @@ same-length-3 c = search needs
 
 returns : tie.Need-returns
 returns c =
-    rw (c .before .before .before .before .before .before .before .before .before .before .if1 .taken) (plainly _ _ _ _ (slot-read (c .before .before .before .before .before .before .before .before .before .before .before .before .before .before .before .before .before .before .before .before .args .h) (c .before .before .before .before .before .before .before .before .before .before .before .before .before .before .before .before .before .before .before .before .args .body .now) _ _ _ _ (c .before .before .before .before .before .before .before .before .before .before .before .before .before .before .slot-number .ensures) (c .before .before .before .before .before .before .before .before .before .before .before .before .before .slot-base .ensures) (c .before .before .before .before .before .before .before .before .before .before .before .before .is-sp .ensures) (c .before .before .before .before .before .before .before .before .before .before .before .slot-word .ensures)) (c .before .before .before .before .before .before .push-prefixed .ensures))
+    rw (c .before .before .before .before .before .before .before .before .before .before .if1 .taken) (plainly _ _ _ _ (slot-read (c .before .before .before .before .before .before .before .before .before .before .before .before .before .before .before .before .before .before .before .before .args .h) (c .before .before .before .before .before .before .before .before .before .before .before .before .before .before .before .before .before .before .before .before .args .body .now) _ _ _ _ (c .before .before .before .before .before .before .before .before .before .before .before .before .before .before .slot-number .ensures) (c .before .before .before .before .before .before .before .before .before .before .before .before .before .slot-base .ensures) (c .before .before .before .before .before .before .before .before .before .before .before .before .is-stack-pointer .ensures) (c .before .before .before .before .before .before .before .before .before .before .before .slot-word .ensures)) (c .before .before .before .before .before .before .push-prefixed .ensures))
 
 push-word-requires : tie.Need-push-word-requires
 push-word-requires c κs = search needs
@@ -51,7 +50,7 @@ same-length-6 c = search needs
 
 returns-2 : tie.Need-returns-2
 returns-2 c =
-    rw (c .before .before .before .before .before .before .before .before .before .before .before .before .before .before .before .before .before .before .before .before .if1 .left) (and-then _ _ _ _ _ (slot-read (c .before .before .before .before .before .before .before .before .before .before .before .before .before .before .before .before .before .before .before .before .before .before .before .before .before .before .before .before .before .before .args .h) (c .before .before .before .before .before .before .before .before .before .before .before .before .before .before .before .before .before .before .before .before .before .before .before .before .before .before .before .before .before .before .args .body .now) _ _ _ _ (c .before .before .before .before .before .before .before .before .before .before .before .before .before .before .before .before .before .before .before .before .before .before .before .before .slot-number .ensures) (c .before .before .before .before .before .before .before .before .before .before .before .before .before .before .before .before .before .before .before .before .before .before .before .slot-base .ensures) (c .before .before .before .before .before .before .before .before .before .before .before .before .before .before .before .before .before .before .before .before .before .before .is-sp .ensures) (c .before .before .before .before .before .before .before .before .before .before .before .before .before .before .before .before .before .before .before .before .before .slot-word .ensures)) (c .before .before .before .before .before .before .before .before .before .before .before .before .before .before .before .before .push-word .ensures) (c .before .before .before .before .before .before .push-prefixed2 .ensures))
+    rw (c .before .before .before .before .before .before .before .before .before .before .before .before .before .before .before .before .before .before .before .before .if1 .left) (and-then _ _ _ _ _ (slot-read (c .before .before .before .before .before .before .before .before .before .before .before .before .before .before .before .before .before .before .before .before .before .before .before .before .before .before .before .before .before .before .args .h) (c .before .before .before .before .before .before .before .before .before .before .before .before .before .before .before .before .before .before .before .before .before .before .before .before .before .before .before .before .before .before .args .body .now) _ _ _ _ (c .before .before .before .before .before .before .before .before .before .before .before .before .before .before .before .before .before .before .before .before .before .before .before .before .slot-number .ensures) (c .before .before .before .before .before .before .before .before .before .before .before .before .before .before .before .before .before .before .before .before .before .before .before .slot-base .ensures) (c .before .before .before .before .before .before .before .before .before .before .before .before .before .before .before .before .before .before .before .before .before .before .is-stack-pointer .ensures) (c .before .before .before .before .before .before .before .before .before .before .before .before .before .before .before .before .before .before .before .before .before .slot-word .ensures)) (c .before .before .before .before .before .before .before .before .before .before .before .before .before .before .before .before .push-word .ensures) (c .before .before .before .before .before .before .push-prefixed2 .ensures))
 
 pub push-slot-spec : {M : Type 1} → statement M
 push-slot-spec =
@@ -59,7 +58,7 @@ push-slot-spec =
     (tie.spec
     slot-number-requires
     slot-base-requires
-    is-sp-requires
+    is-stack-pointer-requires
     slot-word-requires
     push-prefixed-requires
     same-length

@@ -1,6 +1,5 @@
 -- `memory::registers_loose` meets its contract.
 -- By which registers there are.
-use mathlib.Core.Path.{ap, _∙_}
 use Rattle.operand.proofs.Pushes.{yes-is, no-is, scaled-loose}
 use borrow.Author.Needs.{needs}
 use Rattle.operand.proofs.memory.registers_loose.Statement.{statement}
@@ -20,7 +19,7 @@ memory-index-scale-requires c κs = search needs
 
 returns-2 : tie.Need-returns-2
 returns-2 c =
-    rw (no-is _ _ _ (c .before .before .before .before .memory-index .ensures) (c .before .before .before .if1 .left), yes-is _ _ _ (c .before .before .slot-base .ensures) (c .before .if2 .taken)) (scaled-loose (c .before .before .before .before .before .before .args .h) (c .before .before .before .before .before .before .args .body .now) _ (c .memory-index-scale .ensures))
+    rw (no-is _ _ _ (c .before .before .before .before .memory-index .ensures) (c .before .before .before .if1 .left), yes-is _ _ _ (c .before .before .slot-base .ensures) (c .before .if2 .taken)) (scaled-loose (c .before .before .before .before .before .before .args .body .now) _ (c .memory-index-scale .ensures))
 
 returns-3 : tie.Need-returns-3
 returns-3 c =

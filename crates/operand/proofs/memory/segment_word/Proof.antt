@@ -2,7 +2,6 @@
 -- By segment and size.
 use borrow.Author.Tests.{eq-eqb, ne-eqb}
 use Rattle.operand.specs.Memory.{segmentWord}
-use borrow.Author.Needs.{needs}
 use Rattle.operand.proofs.memory.segment_word.Statement.{statement}
 use Rattle.operand.proofs.memory.segment_word.Tie as tie
 

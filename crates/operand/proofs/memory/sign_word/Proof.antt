@@ -1,7 +1,6 @@
 -- `memory::sign_word` meets its contract.
 -- By the sign.
 use Rattle.tokens.specs.Words.{words, wordToken}
-use borrow.Author.Needs.{needs}
 use Rattle.operand.proofs.memory.sign_word.Statement.{statement}
 use Rattle.operand.proofs.memory.sign_word.Tie as tie
 

@@ -1,6 +1,5 @@
 -- `memory::slot_word` meets its contract.
 -- By the test.
-use borrow.Author.Needs.{needs}
 use Rattle.operand.proofs.memory.slot_word.Statement.{statement}
 use Rattle.operand.proofs.memory.slot_word.Tie as tie
 

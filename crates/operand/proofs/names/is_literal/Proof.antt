@@ -1,10 +1,5 @@
 -- `names::is_literal` meets its contract.
 -- By what was found.
-use lib.Dec.{eqb}
-use mathlib.Core.Bool.{not}
-use mathlib.Core.Path.{_≡_, ap, _∙_}
-use Prim.Native.Nat.{ℕ}
-use Rattle.record.specs.Atlas.{entryKind}
 use Rattle.operand.proofs.Entries.{part-is}
 use borrow.Author.Needs.{needs}
 use Rattle.operand.proofs.names.is_literal.Statement.{statement}

@@ -1,6 +1,6 @@
 -- `names::name_or` meets its contract.
 -- The entry that was found is the definition's.
-use mathlib.Core.Path.{_≡_, sym}
+use mathlib.Core.Path.{sym}
 use Rattle.tokens.specs.Sheet.{pushes}
 use Rattle.operand.specs.Names.{nameOr}
 use borrow.Author.Needs.{needs}

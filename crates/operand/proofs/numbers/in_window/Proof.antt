@@ -1,7 +1,6 @@
 -- `numbers::in_window` meets its contract.
 -- The window over signed numbers of 64 bits.
 use Rattle.operand.proofs.Integers.{window-asked}
-use borrow.Author.Needs.{needs}
 use Rattle.operand.proofs.numbers.in_window.Statement.{statement}
 use Rattle.operand.proofs.numbers.in_window.Tie as tie
 

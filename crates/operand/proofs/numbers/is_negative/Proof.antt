@@ -1,7 +1,6 @@
 -- `numbers::is_negative` meets its contract.
 -- The sign of a signed number of 64 bits.
 use Rattle.operand.proofs.Integers.{negative-asked}
-use borrow.Author.Needs.{needs}
 use Rattle.operand.proofs.numbers.is_negative.Statement.{statement}
 use Rattle.operand.proofs.numbers.is_negative.Tie as tie
 

@@ -3,7 +3,6 @@
 use mir.Syntax.{w32, w64}
 use mir.ValLaws.{toZ-ofZ}
 use Rattle.operand.proofs.Integers.{wide}
-use borrow.Author.Needs.{needs}
 use Rattle.operand.proofs.numbers.widened.Statement.{statement}
 use Rattle.operand.proofs.numbers.widened.Tie as tie
 

@@ -8,8 +8,8 @@ use borrow.Author.Needs.{needs}
 use Rattle.operand.proofs.operand.push_immediate.Statement.{statement}
 use Rattle.operand.proofs.operand.push_immediate.Tie as tie
 
-window-read-requires : tie.Need-window-read-requires
-window-read-requires c κs = search needs
+signed-read-requires : tie.Need-signed-read-requires
+signed-read-requires c κs = search needs
 
 in-window-requires : tie.Need-in-window-requires
 in-window-requires c κs = search needs
@@ -32,7 +32,7 @@ same-length-3 c = search needs
 returns : tie.Need-returns
 unfolding pushes
 returns c =
-    c .before .before .before .before .before .before .push-num .ensures ∙ ap (push _) (in-window (c .before .before .before .before .before .before .before .before .before .before .before .before .before .before .before .before .before .args .kind) (c .before .before .before .before .before .before .before .before .before .before .before .before .before .before .before .before .before .args .v) _ _ (omega arith) (c .before .before .before .before .before .before .before .before .before .before .before .before .before .window-read .ensures) (c .before .before .before .before .before .before .before .before .before .before .before .before .in-window .ensures) (c .before .before .before .before .before .before .before .before .before .before .before .if1 .taken) _ (c .before .before .before .before .before .before .before .magnitude .ensures .0))
+    c .before .before .before .before .before .before .push-num .ensures ∙ ap (push _) (in-window (c .before .before .before .before .before .before .before .before .before .before .before .before .before .before .before .before .before .args .kind) (c .before .before .before .before .before .before .before .before .before .before .before .before .before .before .before .before .before .args .v) _ _ (omega arith) (c .before .before .before .before .before .before .before .before .before .before .before .before .before .signed-read .ensures) (c .before .before .before .before .before .before .before .before .before .before .before .before .in-window .ensures) (c .before .before .before .before .before .before .before .before .before .before .before .if1 .taken) _ (c .before .before .before .before .before .before .before .magnitude .ensures .0))
 
 push-num-requires-2 : tie.Need-push-num-requires-2
 push-num-requires-2 c κs = search needs
@@ -49,13 +49,13 @@ same-length-6 c = search needs
 returns-2 : tie.Need-returns-2
 unfolding pushes
 returns-2 c =
-    c .before .before .before .before .before .before .push-num2 .ensures ∙ ap (push _) (not-in-window (c .before .before .before .before .before .before .before .before .before .before .before .before .before .before .before .before .args .kind) (c .before .before .before .before .before .before .before .before .before .before .before .before .before .before .before .before .args .v) _ _ (omega arith) (c .before .before .before .before .before .before .before .before .before .before .before .before .window-read .ensures) (c .before .before .before .before .before .before .before .before .before .before .before .in-window .ensures) (c .before .before .before .before .before .before .before .before .before .before .if1 .left))
+    c .before .before .before .before .before .before .push-num2 .ensures ∙ ap (push _) (not-in-window (c .before .before .before .before .before .before .before .before .before .before .before .before .before .before .before .before .args .kind) (c .before .before .before .before .before .before .before .before .before .before .before .before .before .before .before .before .args .v) _ _ (omega arith) (c .before .before .before .before .before .before .before .before .before .before .before .before .signed-read .ensures) (c .before .before .before .before .before .before .before .before .before .before .before .in-window .ensures) (c .before .before .before .before .before .before .before .before .before .before .if1 .left))
 
 pub push-immediate-spec : {M : Type 1} → statement M
 push-immediate-spec =
     tie.close
     (tie.spec
-    window-read-requires
+    signed-read-requires
     in-window-requires
     magnitude-requires
     push-num-requires

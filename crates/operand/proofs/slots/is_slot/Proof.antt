@@ -11,8 +11,8 @@ slot-base-requires c κs = search needs
 slot-number-requires : tie.Need-slot-number-requires
 slot-number-requires c κs = search needs
 
-is-sp-requires : tie.Need-is-sp-requires
-is-sp-requires c κs = search needs
+is-stack-pointer-requires : tie.Need-is-stack-pointer-requires
+is-stack-pointer-requires c κs = search needs
 
 memory-index-requires : tie.Need-memory-index-requires
 memory-index-requires c κs = search needs
@@ -23,7 +23,7 @@ is-frame-requires c κs = search needs
 returns : tie.Need-returns
 unfolding isSlot
 returns c =
-    simp (c .is-frame .ensures, c .before .before .memory-index .ensures, c .before .before .before .is-sp .ensures, c .before .before .before .before .slot-number .ensures, c .before .before .before .before .before .slot-base .ensures)
+    simp (c .is-frame .ensures, c .before .before .memory-index .ensures, c .before .before .before .is-stack-pointer .ensures, c .before .before .before .before .slot-number .ensures, c .before .before .before .before .before .slot-base .ensures)
 
 pub is-slot-spec : {M : Type 1} → statement M
 is-slot-spec =
@@ -31,7 +31,7 @@ is-slot-spec =
     (tie.spec
     slot-base-requires
     slot-number-requires
-    is-sp-requires
+    is-stack-pointer-requires
     memory-index-requires
     is-frame-requires
     returns)

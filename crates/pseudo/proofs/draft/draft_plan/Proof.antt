@@ -3,7 +3,7 @@
 use mathlib.Core.List.{map}
 use Rattle.line.specs.Lines.{lineIn}
 use Rattle.line.specs.Print.{printed}
-use Rattle.pseudo.proofs.Listing.{sizes-told, draft-told}
+use Rattle.pseudo.proofs.Listing.{sizes-are, draft-is}
 use borrow.Author.Needs.{needs}
 use Rattle.pseudo.proofs.draft.draft_plan.Statement.{statement}
 use Rattle.pseudo.proofs.draft.draft_plan.Tie as tie
@@ -29,8 +29,8 @@ same-length-4 c = search needs
 returns : tie.Need-returns
 returns c =
     let ls = printed ((c .before .before .before .before .before .before .before .before .before .before .before .before .before .before .before .before .before .before .before .before .before .before .before .before .args) .h) ((c .before .before .before .before .before .before .before .before .before .before .before .before .before .before .before .before .before .before .before .before .before .before .before .before .args) .rec .now) ((c .before .before .before .before .before .before .before .before .before .before .before .before .before .before .before .before .before .before .before .before .before .before .before .before .args) .range) 0 (map lineIn ((c .before .before .before .before .before .before .before .before .before .before .before .before .before .before .before .before .before .before .before .before .before .before .before .before .args) .codes .now)) in (
-      sizes-told ls ((c .before .before .before .before .before .before .before .before .before .before .before .before .before .before .before .before .before .before .before .before .before .before .before .before .pre) .1 .1 .1) _ ((c .before .before .before .before .before .before .before .before .before .first-pen) .ensures) _ _ _ _ _ _ _ _ _ ((c .before .before .before .before .before .before .before .before .print-lines) .ensures) ((c .before .before .before .before .before .before .before .before .before .before .before .before .before .before .before .before .before .before .before .before .before .before .before .before .args) .codes .now),
-      draft-told ls ((c .before .before .before .before .before .before .before .before .before .before .before .before .before .before .before .before .before .before .before .before .before .before .before .before .pre) .1 .1 .1) _ ((c .before .before .before .before .before .before .before .before .before .first-pen) .ensures) _ _ _ _ _ _ _ _ _ ((c .before .before .before .before .before .before .before .before .print-lines) .ensures),
+      sizes-are ls ((c .before .before .before .before .before .before .before .before .before .before .before .before .before .before .before .before .before .before .before .before .before .before .before .before .pre) .1 .1 .1) _ ((c .before .before .before .before .before .before .before .before .before .first-pen) .ensures) _ _ _ _ _ _ _ _ _ ((c .before .before .before .before .before .before .before .before .print-lines) .ensures) ((c .before .before .before .before .before .before .before .before .before .before .before .before .before .before .before .before .before .before .before .before .before .before .before .before .args) .codes .now),
+      draft-is ls ((c .before .before .before .before .before .before .before .before .before .before .before .before .before .before .before .before .before .before .before .before .before .before .before .before .pre) .1 .1 .1) _ ((c .before .before .before .before .before .before .before .before .before .first-pen) .ensures) _ _ _ _ _ _ _ _ _ ((c .before .before .before .before .before .before .before .before .print-lines) .ensures),
     )
 
 pub draft-plan-spec : {M : Type 1} → statement M

@@ -4,7 +4,7 @@ use mathlib.Core.List.{map}
 use Rattle.line.specs.Lines.{lineIn}
 use Rattle.line.specs.Print.{printed}
 use Rattle.pseudo.proofs.Answers.{codes-length}
-use Rattle.pseudo.proofs.Listing.{printed-told, copied-printed}
+use Rattle.pseudo.proofs.Listing.{printed-is, copied-printed}
 use borrow.Author.Needs.{needs}
 use Rattle.pseudo.proofs.draft.put_lines.Statement.{statement}
 use Rattle.pseudo.proofs.draft.put_lines.Tie as tie
@@ -53,7 +53,7 @@ same-length-8 : tie.Need-same-length-8
 same-length-8 c = search needs
 
 returns-2 : tie.Need-returns-2
-returns-2 c = printed-told (printed ((c .before .before .before .before .before .before .before .before .before .before .before .before .before .before .before .before .before .before .before .before .before .before .before .before .before .before .before .before .before .before .args) .h) ((c .before .before .before .before .before .before .before .before .before .before .before .before .before .before .before .before .before .before .before .before .before .before .before .before .before .before .before .before .before .before .args) .rec .now) ((c .before .before .before .before .before .before .before .before .before .before .before .before .before .before .before .before .before .before .before .before .before .before .before .before .before .before .before .before .before .before .args) .range) 0 (map lineIn ((c .before .before .before .before .before .before .before .before .before .before .before .before .before .before .before .before .before .before .before .before .before .before .before .before .before .before .before .before .before .before .args) .codes .now))) ((c .before .before .before .before .before .before .before .before .before .before .before .before .before .before .before .before .before .before .before .before .before .before .before .before .before .before .before .before .before .before .pre) .1 .1 .1 .0) _ ((c .before .before .before .before .before .before .before .before .before .first-pen) .ensures) _ _ _ _ _ _ _ _ _ ((c .before .before .before .before .before .before .before .before .print-lines) .ensures)
+returns-2 c = printed-is (printed ((c .before .before .before .before .before .before .before .before .before .before .before .before .before .before .before .before .before .before .before .before .before .before .before .before .before .before .before .before .before .before .args) .h) ((c .before .before .before .before .before .before .before .before .before .before .before .before .before .before .before .before .before .before .before .before .before .before .before .before .before .before .before .before .before .before .args) .rec .now) ((c .before .before .before .before .before .before .before .before .before .before .before .before .before .before .before .before .before .before .before .before .before .before .before .before .before .before .before .before .before .before .args) .range) 0 (map lineIn ((c .before .before .before .before .before .before .before .before .before .before .before .before .before .before .before .before .before .before .before .before .before .before .before .before .before .before .before .before .before .before .args) .codes .now))) ((c .before .before .before .before .before .before .before .before .before .before .before .before .before .before .before .before .before .before .before .before .before .before .before .before .before .before .before .before .before .before .pre) .1 .1 .1 .0) _ ((c .before .before .before .before .before .before .before .before .before .first-pen) .ensures) _ _ _ _ _ _ _ _ _ ((c .before .before .before .before .before .before .before .before .print-lines) .ensures)
 
 pub put-lines-spec : {M : Type 1} → statement M
 put-lines-spec =

@@ -1,5 +1,5 @@
--- A record's plan is small: its lines stand at places of the range and at the record's instructions, are at most 900, and stand
--- no deeper than 255. The laws of any rows' plan, with what questions 3 and 5 see to.
+-- A record's plan has demand 3 and is small: lines of the range's places and the record's instructions, at most 900, no deeper than 255.
+-- The laws of any rows' plan, with what questions 3 and 5 see to.
 use Prim.Native.Nat.{ℕ, zero, suc, _+_, _-_, _*_, _<_, _≤_}
 use mathlib.Core.Bool.{true}
 use mathlib.Core.List.{List}
@@ -16,14 +16,15 @@ use Rattle.record.specs.Blocks.{firstInstruction}
 use Rattle.structure.specs.Graph.{countIn}
 use Rattle.structure.specs.Demand.{Shallow}
 use Rattle.structure.specs.Placed.{Placed}
-use Rattle.structure.specs.PlacedLaw.{plan-placed}
-use Rattle.structure.specs.Braces.{shallow-wider}
-use Rattle.structure.specs.Props.{demand3}
+use Rattle.structure.proofs.PlanPlaced.{plan-placed}
+use Rattle.structure.proofs.Braces.{shallow-wider}
+use Rattle.structure.proofs.Props.{demand3}
 use Rattle.flow.specs.Rows.{blockRows, edgeRows, shownRows}
-use Rattle.flow.specs.Counted.{Counted, sum-grows, instructions-within, limits-small}
-use Rattle.flow.specs.Laws.{put-read}
-use Rattle.flow.specs.Terms.{blocks-length, first-in, count-in}
+use Rattle.flow.specs.Counted.{Counted}
 use Rattle.flow.specs.Planned.{recordPlan, RecordDemand3}
+use Rattle.flow.proofs.Totals.{sum-grows, instructions-within, limits-small}
+use Rattle.flow.proofs.Laws.{put-read}
+use Rattle.flow.proofs.Terms.{blocks-length, first-in, count-in}
 
 -- the blocks' rows, stored in a list of the most numbers that they have and read back by their length
 pub block-rows-taken : (h : Header) (s : List ℕ) → limitsOk h ≡ true → take (8 * h .blocks) (put 0 (blockRows h s) (replicate 1600 0)) ≡ blockRows h s

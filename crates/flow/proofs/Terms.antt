@@ -15,9 +15,9 @@ use Rattle.record.specs.Blocks.{instructionsIn, edgesIn, labelMark, firstInstru
 use Rattle.record.specs.Body.{bodyAt}
 use Rattle.structure.specs.Graph.{firstIn, countIn, firstEdgeIn, labelWanted, endingIn, branchTo, edgeTo, edgeKind, isShown}
 use Rattle.structure.specs.Graph as flow
-use Rattle.flow.specs.Silent.{isQuiet, endingOf}
+use Rattle.flow.specs.Silent.{isSilentItself, endingOf}
 use Rattle.flow.specs.Rows.{placeOf, lastBody, blockEnding, blockBranch, blockRow, blockRows, edgeRow, edgeRows, shownRow, shownRows}
-use Rattle.flow.specs.Laws.{rows-length, row-at}
+use Rattle.flow.proofs.Laws.{rows-length, row-at}
 
 pick-twice : (b : Bool) (x : ℕ) → pick b 0 (pick b 0 x) ≡ pick b 0 x
 pick-twice true x = refl
@@ -91,11 +91,11 @@ module _ (h : Header) (s : List ℕ) where
     edge-kind = edge-at 1 (omega arith)
 
   module _ (i : ℕ) (below : i < h .instructions) where
-    shown-at : getD (shownRows h s) i 0 ≡ pick (isQuiet (h .frame) (bodyAt (bodiesOf h s) i)) 0 1
+    shown-at : getD (shownRows h s) i 0 ≡ pick (isSilentItself (h .frame) (bodyAt (bodiesOf h s) i)) 0 1
     unfolding shownRows shownRow
     shown-at =
         let e : i ≡ 1 * i + 0 = omega arith in
         ap (λ (j : ℕ). getD (shownRows h s) j 0) e ∙ row-at (shownRow h s) 1 (λ k. refl) (h .instructions) i 0 below (omega arith)
 
-    pub is-shown : isShown (shownRows h s) i ≡ not (isQuiet (h .frame) (bodyAt (bodiesOf h s) i))
-    is-shown = ap (λ (x : ℕ). eqb x 1) shown-at ∙ pick-shown (isQuiet (h .frame) (bodyAt (bodiesOf h s) i))
+    pub is-shown : isShown (shownRows h s) i ≡ not (isSilentItself (h .frame) (bodyAt (bodiesOf h s) i))
+    is-shown = ap (λ (x : ℕ). eqb x 1) shown-at ∙ pick-shown (isSilentItself (h .frame) (bodyAt (bodiesOf h s) i))

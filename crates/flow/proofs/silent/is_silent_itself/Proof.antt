@@ -1,9 +1,9 @@
--- `is_quiet` meets its contract.
+-- `is_silent_itself` meets its contract.
 -- The answer is the test itself, of what the readers ensure.
-use Rattle.flow.specs.Silent.{isQuiet}
+use Rattle.flow.specs.Silent.{isSilentItself}
 use borrow.Author.Needs.{needs}
-use Rattle.flow.proofs.silent.is_quiet.Statement.{statement}
-use Rattle.flow.proofs.silent.is_quiet.Tie as tie
+use Rattle.flow.proofs.silent.is_silent_itself.Statement.{statement}
+use Rattle.flow.proofs.silent.is_silent_itself.Tie as tie
 
 is-skipped-requires : tie.Need-is-skipped-requires
 is-skipped-requires c κs = search needs
@@ -18,11 +18,11 @@ is-direct-jmp-requires : tie.Need-is-direct-jmp-requires
 is-direct-jmp-requires c κs = search needs
 
 returns : tie.Need-returns
-unfolding isQuiet
+unfolding isSilentItself
 returns c = simp (c .is-direct-jmp .ensures, c .before .is-folded .ensures, c .before .before .mnemonic .ensures, c .before .before .before .is-skipped .ensures)
 
-pub is-quiet-spec : {M : Type 1} → statement M
-is-quiet-spec =
+pub is-silent-itself-spec : {M : Type 1} → statement M
+is-silent-itself-spec =
     tie.close
     (tie.spec
     is-skipped-requires

@@ -1,5 +1,5 @@
--- What a printer is lent: the table of words, the table of x86, and a record whose atlas addresses rise (question 9), by which an
--- entry is found by halving.
+-- What a printer's tables and record must be: the words, the numbers of x86, and a record whose atlas addresses rise (question 9), by
+-- which an entry is found by halving.
 use Prim.Native.Nat.{ℕ}
 use mathlib.Core.List.{List}
 use mathlib.Core.Path.{_≡_}
@@ -14,7 +14,7 @@ use Rattle.record.specs.Search.{Rises}
 abbrev pub Rising : Header → List ℕ → Type 0
 Rising h s = Rises (entryAddress (entriesOf h s)) (h .atlas)
 
-pub record Lent (words isa : List ℕ) (h : Header) (s : List ℕ) : Type 0 where
+pub record Tables (words isa : List ℕ) (h : Header) (s : List ℕ) : Type 0 where
   pub words-are : words ≡ wordBytes
   pub isa-is : isa ≡ isaBytes
   pub rising : Rising h s
