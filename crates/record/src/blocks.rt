@@ -1,15 +1,46 @@
 // Blocks and edges: readers over the part of the record that begins at their array, and questions 5 to 7.
-// An address and a place in the listing order are different types, so that they cannot be compared.
+// An address and a place in the listing order are different types, each with tests of its own, so that they cannot be compared.
 use lists::reads::u8_at;
 use lists::reads::u16_at;
 use lists::reads::u64_at;
 ghost use mathlib.Core.Path.{_≡_};
-ghost use Prim.Native.Nat.{_*_, _<_};
+ghost use Prim.Native.Nat.{_<_};
+ghost use lib.Dec.{ltb, eqb};
 ghost use Rattle.record.specs.Blocks.{startAt, instructionsIn, edgesIn, labelMark, targetAt, edgeKindAt, marksOk, startIsNew, startsDiffer, startsRise, edgeKindsOk};
 
 pub struct Address(pub u64);
 
 pub struct Place(pub u16);
+
+// A place that a search found.
+pub enum FoundPlace {
+    AtPlace(Place),
+    NoPlace,
+}
+
+pub fn is_below(a: Address, b: Address) -> bool
+    ensures { λ r. ⌜ r ≡ ltb (a .0) (b .0) ⌝ }
+{
+    a.0 < b.0
+}
+
+pub fn same_address(a: Address, b: Address) -> bool
+    ensures { λ r. ⌜ r ≡ eqb (a .0) (b .0) ⌝ }
+{
+    a.0 == b.0
+}
+
+pub fn is_before(a: Place, b: Place) -> bool
+    ensures { λ r. ⌜ r ≡ ltb (a .0) (b .0) ⌝ }
+{
+    a.0 < b.0
+}
+
+pub fn same_place(a: Place, b: Place) -> bool
+    ensures { λ r. ⌜ r ≡ eqb (a .0) (b .0) ⌝ }
+{
+    a.0 == b.0
+}
 
 pub fn start_at(starts: &[u8], k: Place) -> Address
     ensures { λ r. ⌜ r .0 ≡ startAt (now (starts .entry)) (k .0) ⌝ }
@@ -68,10 +99,10 @@ pub fn marks_ok(marks: &[u8], blocks: u16, instructions: u16, edges: u16) -> boo
 fn start_is_new(starts: &[u8], k: u16) -> bool
     ensures { λ r. ⌜ r ≡ startIsNew (now (starts .entry)) k ⌝ }
 {
-    let x = start_at(starts, Place(k)).0;
+    let x = start_at(starts, Place(k));
     let mut j: u16 = 0;
     while j < k {
-        if start_at(starts, Place(j)).0 == x {
+        if same_address(start_at(starts, Place(j)), x) {
             return false;
         }
         j += 1;
@@ -83,12 +114,12 @@ fn start_is_new(starts: &[u8], k: u16) -> bool
 pub fn starts_rise(starts: &[u8], blocks: u16) -> bool
     ensures { λ r. ⌜ r ≡ startsRise (now (starts .entry)) blocks ⌝ }
 {
-    let mut before = start_at(starts, Place(0)).0;
+    let mut before = start_at(starts, Place(0));
     let mut ok = true;
     let mut k: u16 = 0;
     while k < blocks {
-        let x = start_at(starts, Place(k)).0;
-        ok = ok & ((k == 0) | (before < x));
+        let x = start_at(starts, Place(k));
+        ok = ok & ((k == 0) | is_below(before, x));
         before = x;
         k += 1;
     }

@@ -5,7 +5,6 @@ use Prim.Native.Nat.{ℕ, _≤_, _-_, _*_}
 use native.Mathlib.Omega.{arith}
 use borrow.Author.Needs.{needs}
 use mathlib.Core.Bool.{true, false, not}
-use borrow.Author.Tests.{eq-eqb, ne-eqb}
 use Rattle.lists.specs.Choice.{allBelow}
 use Rattle.lists.specs.Below.{all-goes-on, all-fails}
 use Rattle.record.specs.Blocks.{differ, startIsNew}
@@ -27,12 +26,15 @@ loop-holds c = search needs
 start-at-requires-2 : tie.Need-start-at-requires-2 Inv-loop μ-loop
 start-at-requires-2 c κs = search needs
 
+same-address-requires : tie.Need-same-address-requires Inv-loop μ-loop
+same-address-requires c κs = search needs
+
 returns : tie.Need-returns Inv-loop μ-loop
 unfolding startIsNew differ
 returns c =
     let l = c .before .before .before .before in
     let a = l .before .before .before .args in
-    sym (all-fails (differ (a .starts .now) (a .k)) (a .k) (l .loop .j) (search needs) (simp (sym (l .before .start-at .ensures), sym (c .before .before .start-at2 .ensures), eq-eqb _ _ (c .if1 .taken))))
+    sym (all-fails (differ (a .starts .now) (a .k)) (a .k) (l .loop .j) (search needs) (simp (sym (l .before .start-at .ensures), sym (c .before .before .start-at2 .ensures), sym (c .before .same-address .ensures), c .if1 .taken)))
 
 add-j : tie.Need-add-j Inv-loop μ-loop
 add-j c = search needs
@@ -45,7 +47,7 @@ unfolding differ
 loop-again c =
     let l = c .before .before .before .before in
     let a = l .before .before .before .args in
-    (search needs, all-goes-on (differ (a .starts .now) (a .k)) (l .loop .j) (l .loop .inv .1) (simp (sym (l .before .start-at .ensures), sym (c .before .before .start-at2 .ensures), ne-eqb _ _ (c .if1 .left))))
+    (search needs, all-goes-on (differ (a .starts .now) (a .k)) (l .loop .j) (l .loop .inv .1) (simp (sym (l .before .start-at .ensures), sym (c .before .before .start-at2 .ensures), sym (c .before .same-address .ensures), c .if1 .left)))
 
 returns-2 : tie.Need-returns-2 Inv-loop μ-loop
 unfolding startIsNew
@@ -63,6 +65,7 @@ start-is-new-spec =
     start-at-requires
     loop-holds
     start-at-requires-2
+    same-address-requires
     returns
     add-j
     loop-less

@@ -11,7 +11,7 @@ use Rattle.record.proofs.blocks.starts_rise.Statement.{statement}
 use Rattle.record.proofs.blocks.starts_rise.Tie as tie
 
 abbrev Inv-loop : tie.InvT-loop
-Inv-loop starts blocks before₀ ok₀ k₀ before ok k = (k ≤ blocks) × (before ≡ startAt starts (k - 1)) × (ok ≡ allBelow (startRises starts) k)
+Inv-loop starts blocks before₀ ok₀ k₀ before ok k = (k ≤ blocks) × (before .0 ≡ startAt starts (k - 1)) × (ok ≡ allBelow (startRises starts) k)
 
 abbrev μ-loop : tie.MeasureT-loop
 μ-loop starts blocks before₀ ok₀ k₀ before ok k = blocks - k
@@ -25,6 +25,9 @@ loop-holds c = search needs
 start-at-requires-2 : tie.Need-start-at-requires-2 Inv-loop μ-loop
 start-at-requires-2 c κs = search needs
 
+is-below-requires : tie.Need-is-below-requires Inv-loop μ-loop
+is-below-requires c κs = search needs
+
 add-k : tie.Need-add-k Inv-loop μ-loop
 add-k c = search needs
 
@@ -33,9 +36,10 @@ loop-less c = search needs
 
 loop-again : tie.Need-loop-again Inv-loop μ-loop
 loop-again c =
-    let l = c .before .before in
+    let s = c .before .start-at2 in
+    let l = c .before .before .before in
     let e : l .loop .k + 1 - 1 ≡ l .loop .k = omega arith in
-    (search needs, rw e (c .start-at2 .ensures), simp (all-more, l .loop .inv .2, l .loop .inv .1, c .start-at2 .ensures))
+    (search needs, rw e (s .ensures), simp (all-more, l .loop .inv .2, c .is-below .ensures, l .loop .inv .1, s .ensures))
 
 returns : tie.Need-returns Inv-loop μ-loop
 unfolding startsRise
@@ -53,6 +57,7 @@ starts-rise-spec =
     start-at-requires
     loop-holds
     start-at-requires-2
+    is-below-requires
     add-k
     loop-less
     loop-again
