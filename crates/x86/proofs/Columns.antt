@@ -1,4 +1,4 @@
--- The lent table holds at each number's place what the definitions say of that number.
+-- The table holds at each number's place what the definitions say of that number.
 -- One test a column, which antt computes over all of its numbers, and one law that turns such a test into the rule at each number.
 use mathlib.Core.Path.{_≡_, refl, ap, ap₂, sym}
 use mathlib.Core.Bool.{Bool, true, false, not, Bool·beq}
@@ -10,7 +10,7 @@ use borrow.Author.Tests.{lt-ltb, le-ltb}
 use lib.Dec.{T, eqb, ltb, eqb→eq}
 use lib.ListN.{getD}
 use Rattle.lists.specs.Choice.{pick, allBelow}
-use Rattle.x86.specs.Conditions.{conditionNames, conditionName, relationAfterCmp, relationAfterTest, relationAfterOther, printsUnsigned, negate}
+use Rattle.x86.specs.Conditions.{conditionNames, conditionName, no-relation, relationAfterCmp, relationAfterTest, relationAfterOther, printsUnsigned, negate}
 use Rattle.x86.specs.Mnemonics.{mnemonicNames, mnemonicName, writesFlags}
 use Rattle.x86.specs.Registers.{registerNames, registerName, registerExists, fullRegister, registerSize}
 use Rattle.x86.specs.Table.{isaBytes, bit, textAt}
@@ -93,17 +93,17 @@ module _ (t : List ℕ) (e : t ≡ isaBytes) where
       (column (λ m. 1295 + 16 * m) (λ m. bit (writesFlags m)) (λ m. 0) 46 tt (λ m h. ap bit (no-flags m h)) t e m)
 
   -- conditions: 8 bytes each, from 2016 on
-  pub condition-cmp : (k : ℕ) → pick (ltb k 17) (getD t (2016 + 8 * k) 0) 6 ≡ relationAfterCmp k
-  unfolding isaBytes registerNames registerName mnemonicNames mnemonicName relationAfterCmp
-  condition-cmp = column (λ k. 2016 + 8 * k) relationAfterCmp (λ k. 6) 17 tt none-after-cmp t e
+  pub condition-cmp : (k : ℕ) → pick (ltb k 17) (getD t (2016 + 8 * k) 0) no-relation ≡ relationAfterCmp k
+  unfolding isaBytes registerNames registerName mnemonicNames mnemonicName conditionNames conditionName relationAfterCmp
+  condition-cmp = column (λ k. 2016 + 8 * k) relationAfterCmp (λ k. no-relation) 17 tt none-after-cmp t e
 
-  pub condition-test : (k : ℕ) → pick (ltb k 17) (getD t (2017 + 8 * k) 0) 6 ≡ relationAfterTest k
-  unfolding isaBytes registerNames registerName mnemonicNames mnemonicName relationAfterTest
-  condition-test = column (λ k. 2017 + 8 * k) relationAfterTest (λ k. 6) 17 tt none-after-test t e
+  pub condition-test : (k : ℕ) → pick (ltb k 17) (getD t (2017 + 8 * k) 0) no-relation ≡ relationAfterTest k
+  unfolding isaBytes registerNames registerName mnemonicNames mnemonicName conditionNames conditionName relationAfterTest
+  condition-test = column (λ k. 2017 + 8 * k) relationAfterTest (λ k. no-relation) 17 tt none-after-test t e
 
-  pub condition-other : (k : ℕ) → pick (ltb k 17) (getD t (2018 + 8 * k) 0) 6 ≡ relationAfterOther k
-  unfolding isaBytes registerNames registerName mnemonicNames mnemonicName relationAfterOther
-  condition-other = column (λ k. 2018 + 8 * k) relationAfterOther (λ k. 6) 17 tt none-after-other t e
+  pub condition-other : (k : ℕ) → pick (ltb k 17) (getD t (2018 + 8 * k) 0) no-relation ≡ relationAfterOther k
+  unfolding isaBytes registerNames registerName mnemonicNames mnemonicName conditionNames conditionName relationAfterOther
+  condition-other = column (λ k. 2018 + 8 * k) relationAfterOther (λ k. no-relation) 17 tt none-after-other t e
 
   pub condition-unsigned : (k : ℕ) → eqb (pick (ltb k 17) (getD t (2019 + 8 * k) 0) 0) 1 ≡ printsUnsigned k
   unfolding isaBytes registerNames registerName mnemonicNames mnemonicName conditionNames conditionName printsUnsigned

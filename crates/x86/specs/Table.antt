@@ -1,4 +1,4 @@
--- The table that is made once and lent: an entry a number, packed from the definitions. "Constant arrays give spelling, full
+-- The table: an entry a number, made from the definitions. "Constant arrays give spelling, full
 -- register, flag effect and conditions by number."
 use Prim.Native.Nat.{ℕ, zero, suc, _+_, _-_}
 use mathlib.Core.Bool.{Bool, true, false}
