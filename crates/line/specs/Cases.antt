@@ -14,7 +14,7 @@ use lib.ListN.{replicate}
 use Rattle.lists.specs.Ascii.{ascii}
 use Rattle.text.specs.Number.{digit, hexOf, hexText, sign, sizeText, numText}
 use Rattle.text.specs.NumberLaws.{hex-one, hex-more}
-use Rattle.text.specs.Literal.{letter, escape, escapes, opening, closing, literalText}
+use Rattle.text.specs.Literal.{escape, escapes, opening, closing, literalText}
 use Rattle.tokens.specs.Token.{Token, token, punct, plainText, keyword, register}
 use Rattle.tokens.specs.Words.{words, wordToken, prefixed}
 use Rattle.tokens.specs.Listing.{run, join}
@@ -216,7 +216,7 @@ hex l (suc k) v h =
     ]
 
 pub all-print : map shown cases ≡ map (λ (c : Case). c .expected) cases
-unfolding cases join run printed lineTokens piecesTokens rowOf rows insnForm plainForm returnsValue recordPlan blockRows edgeRows edgeRow shownRows shownRow rowsFrom blockRow firstInstruction firstEdge blockEnding blockBranch endingOf placeOf findFrom isSilentItself isPrologueNoise rangeLines treeLines treeOf treeGo shapeAt lastLoop lastFrom closesLoop hasEdge endingIn regionAt opensRegion singleEntry leaves outsideJump plainLines shownLines bodyCount closingLines loopLines flatLines flatBlock testBlock negate relationAfterOther writtenAfter pieceTokens opTokens immediate immediateNumber signedRead memTokens memExpr addressExpr displacement slotToken isSlot slotNumber slotBase nameOr entryAt entryToken textStart inSpan prefixed wordToken words numText sign sizeText hexOf digit registerName registerNames literalText opening closing escapes escape letter conditionTokens flagWriter afterWriter writesFlags mnemonicName mnemonicNames conditionName conditionNames operatorText relationAfterCmp printsUnsigned
+unfolding cases join run printed lineTokens piecesTokens rowOf rows insnForm plainForm returnsValue recordPlan blockRows edgeRows edgeRow shownRows shownRow rowsFrom blockRow firstInstruction firstEdge blockEnding blockBranch endingOf placeOf findFrom isSilentItself isPrologueNoise rangeLines treeLines treeOf treeGo shapeAt lastLoop lastFrom closesLoop hasEdge endingIn regionAt opensRegion singleEntry leaves outsideJump plainLines shownLines bodyCount closingLines loopLines flatLines flatBlock testBlock negate relationAfterOther writtenAfter pieceTokens opTokens immediate immediateNumber signedRead memTokens memExpr addressExpr displacement slotToken isSlot slotNumber slotBase nameOr entryAt entryToken textStart inSpan prefixed wordToken words numText sign sizeText hexOf digit registerName registerNames literalText opening closing escapes escape conditionTokens flagWriter afterWriter writesFlags mnemonicName mnemonicNames conditionName conditionNames operatorText relationAfterCmp printsUnsigned
 all-print =
     rw (
       hex false 0 10 (omega arith),

@@ -12,7 +12,7 @@ use lib.IntN.{ℤ, pos, negsuc, subℕ, _-ℤ_}
 use lib.Signed.{mag, ltZ, leZ}
 use Rattle.lists.specs.SignedLaws.{negsuc-sub}
 use Rattle.x86.specs.Conditions.{eqZ}
-use Rattle.x86.specs.Flags.{half, signed, fits, difference, cmp, unlike, holds}
+use Rattle.x86.specs.Flags.{half, signed, fits, difference, cmp, unlike, conditionHolds}
 
 -- ---- tests on numbers that say the same
 
@@ -142,8 +142,8 @@ module _ (w a b : ℕ) (h : 1 ≤ w) (ha : a < 2 ^ w) (hb : b < 2 ^ w) where
           rw (difference-ge l, mag-sub-ge (suc (2 ^ w - b - 1)) (suc (2 ^ w - a - 1)) (omega arith))
           (simp (lt-leb (half w) (a - b) (omega arith), lt-ltb (suc (2 ^ w - b - 1) - suc (2 ^ w - a - 1)) (half w) (omega arith), le-ltb (2 ^ w - b - 1) (2 ^ w - a - 1) (omega arith)))
 
-  less : unlike (leb (half w) (difference w a b)) (not (fits w (signed w a -ℤ signed w b))) ≡ ltZ (signed w a) (signed w b)
-  less = go (decLt a (half w)) (decLt b (half w))
+  below-right : unlike (leb (half w) (difference w a b)) (not (fits w (signed w a -ℤ signed w b))) ≡ ltZ (signed w a) (signed w b)
+  below-right = go (decLt a (half w)) (decLt b (half w))
     where
       go : Dec (a < half w) → Dec (b < half w) → unlike (leb (half w) (difference w a b)) (not (fits w (signed w a -ℤ signed w b))) ≡ ltZ (signed w a) (signed w b)
       go (yes p) (yes q) = rw (signed-low w a p, signed-low w b q) (low-low p q)
@@ -173,38 +173,38 @@ module _ (w a b : ℕ) (h : 1 ≤ w) (ha : a < 2 ^ w) (hb : b < 2 ^ w) where
           rw (signed-high w a (omega arith), signed-high w b (omega arith))
           (eqb-iff a b (2 ^ w - a - 1) (2 ^ w - b - 1) (λ e. omega arith) (λ e. omega arith))
 
-  pub cmp-same : eqb a b ≡ holds 5 (cmp w a b)
+  pub cmp-same : eqb a b ≡ conditionHolds 5 (cmp w a b)
   cmp-same = sym zf-right
 
-  pub cmp-unlike : not (eqb a b) ≡ holds 6 (cmp w a b)
+  pub cmp-unlike : not (eqb a b) ≡ conditionHolds 6 (cmp w a b)
   cmp-unlike = ap not cmp-same
 
-  pub cmp-e : eqZ (signed w a) (signed w b) ≡ holds 5 (cmp w a b)
+  pub cmp-e : eqZ (signed w a) (signed w b) ≡ conditionHolds 5 (cmp w a b)
   cmp-e = sym same-signed ∙ cmp-same
 
-  pub cmp-ne : not (eqZ (signed w a) (signed w b)) ≡ holds 6 (cmp w a b)
+  pub cmp-ne : not (eqZ (signed w a) (signed w b)) ≡ conditionHolds 6 (cmp w a b)
   cmp-ne = ap not cmp-e
 
-  pub cmp-b : ltb a b ≡ holds 3 (cmp w a b)
+  pub cmp-b : ltb a b ≡ conditionHolds 3 (cmp w a b)
   cmp-b = refl
 
-  pub cmp-ae : leb b a ≡ holds 4 (cmp w a b)
+  pub cmp-ae : leb b a ≡ conditionHolds 4 (cmp w a b)
   cmp-ae = sym (not-ltb a b)
 
-  pub cmp-be : leb a b ≡ holds 7 (cmp w a b)
+  pub cmp-be : leb a b ≡ conditionHolds 7 (cmp w a b)
   cmp-be = rw zf-right (sym (or-comm (ltb a b) (eqb a b) ∙ lt-or-eq a b))
 
-  pub cmp-a : ltb b a ≡ holds 8 (cmp w a b)
+  pub cmp-a : ltb b a ≡ conditionHolds 8 (cmp w a b)
   cmp-a = rw (zf-right, or-comm, lt-or-eq) (sym (not-leb a b))
 
-  pub cmp-l : ltZ (signed w a) (signed w b) ≡ holds 13 (cmp w a b)
-  cmp-l = sym less
+  pub cmp-l : ltZ (signed w a) (signed w b) ≡ conditionHolds 13 (cmp w a b)
+  cmp-l = sym below-right
 
-  pub cmp-ge : leZ (signed w b) (signed w a) ≡ holds 14 (cmp w a b)
-  cmp-ge = rw less (sym (not-ltZ (signed w a) (signed w b)))
+  pub cmp-ge : leZ (signed w b) (signed w a) ≡ conditionHolds 14 (cmp w a b)
+  cmp-ge = rw below-right (sym (not-ltZ (signed w a) (signed w b)))
 
-  pub cmp-le : leZ (signed w a) (signed w b) ≡ holds 15 (cmp w a b)
-  cmp-le = rw (zf-right, less) (sym less-or-same)
+  pub cmp-le : leZ (signed w a) (signed w b) ≡ conditionHolds 15 (cmp w a b)
+  cmp-le = rw (zf-right, below-right) (sym less-or-same)
 
-  pub cmp-g : ltZ (signed w b) (signed w a) ≡ holds 16 (cmp w a b)
-  cmp-g = rw (zf-right, less, less-or-same) (sym (not-leZ (signed w a) (signed w b)))
+  pub cmp-g : ltZ (signed w b) (signed w a) ≡ conditionHolds 16 (cmp w a b)
+  cmp-g = rw (zf-right, below-right, less-or-same) (sym (not-leZ (signed w a) (signed w b)))

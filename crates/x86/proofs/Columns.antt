@@ -1,4 +1,4 @@
--- The lent table holds at each number's place what the definitions say of that number.
+-- The table holds at each number's place what the definitions say of that number.
 -- One test a column, which antt computes over all of its numbers, and one law that turns such a test into the rule at each number.
 use mathlib.Core.Path.{_≡_, refl, ap, ap₂, sym}
 use mathlib.Core.Bool.{Bool, true, false, not, Bool·beq}
@@ -10,10 +10,10 @@ use borrow.Author.Tests.{lt-ltb, le-ltb}
 use lib.Dec.{T, eqb, ltb, eqb→eq}
 use lib.ListN.{getD}
 use Rattle.lists.specs.Choice.{pick, allBelow}
-use Rattle.x86.specs.Conditions.{conditionNames, conditionName, relationAfterCmp, relationAfterTest, relationAfterOther, printsUnsigned, negate}
+use Rattle.x86.specs.Conditions.{conditionNames, conditionName, no-relation, relationAfterCmp, relationAfterTest, relationAfterOther, printsUnsigned, negate}
 use Rattle.x86.specs.Mnemonics.{mnemonicNames, mnemonicName, writesFlags}
 use Rattle.x86.specs.Registers.{registerNames, registerName, registerExists, fullRegister, registerSize}
-use Rattle.x86.specs.Table.{isaBytes, bit, textAt}
+use Rattle.x86.specs.Table.{registerTable, mnemonicTable, conditionTable, isaBytes, bit, textAt}
 use Rattle.x86.specs.Words.{sameWord}
 use Rattle.lists.specs.Every.{both-left, both-right, beq→eq}
 use Rattle.lists.specs.Below.{below-at}
@@ -62,11 +62,11 @@ yes-column b e = rw e (bit-is b)
 module _ (t : List ℕ) (e : t ≡ isaBytes) where
   -- registers: 8 bytes each
   pub register-spelt : (r : ℕ) → r < 160 → textAt t (8 * r) ≡ registerName r
-  unfolding isaBytes registerNames registerName
+  unfolding isaBytes registerTable registerNames registerName
   register-spelt = texts (λ r. 8 * r) registerName 160 tt t e
 
   pub register-named : (r : ℕ) → not (eqb (pick (ltb r 160) (getD t (0 + 8 * r) 0) 0) 0) ≡ registerExists r
-  unfolding isaBytes registerNames registerName registerExists
+  unfolding isaBytes registerTable registerNames registerName registerExists
   register-named r =
       elim (decLt r 160) [
         | yes h ↦ rw (lt-ltb r 160 h, e) (beq→eq _ _ (below-at named 160 tt r h))
@@ -74,43 +74,43 @@ module _ (t : List ℕ) (e : t ≡ isaBytes) where
       ]
 
   pub register-full : (r : ℕ) → pick (ltb r 160) (getD t (6 + 8 * r) 0) r ≡ fullRegister r
-  unfolding isaBytes registerNames registerName fullRegister
+  unfolding isaBytes registerTable registerNames registerName fullRegister
   register-full = column (λ r. 6 + 8 * r) fullRegister (λ r. r) 160 tt whole-itself t e
 
   pub register-sized : (r : ℕ) → pick (ltb r 160) (getD t (7 + 8 * r) 0) 0 ≡ registerSize r
-  unfolding isaBytes registerNames registerName registerSize
+  unfolding isaBytes registerTable registerNames registerName registerSize
   register-sized = column (λ r. 7 + 8 * r) registerSize (λ r. 0) 160 tt no-size t e
 
   -- mnemonics: 16 bytes each, from 1280 on
   pub mnemonic-spelt : (m : ℕ) → m < 46 → textAt t (1280 + 16 * m) ≡ mnemonicName m
-  unfolding isaBytes registerNames registerName mnemonicNames mnemonicName
+  unfolding isaBytes registerTable mnemonicTable registerNames registerName mnemonicNames mnemonicName
   mnemonic-spelt = texts (λ m. 1280 + 16 * m) mnemonicName 46 tt t e
 
   pub mnemonic-flags : (m : ℕ) → eqb (pick (ltb m 46) (getD t (1295 + 16 * m) 0) 0) 1 ≡ writesFlags m
-  unfolding isaBytes registerNames registerName mnemonicNames mnemonicName writesFlags
+  unfolding isaBytes registerTable mnemonicTable registerNames registerName mnemonicNames mnemonicName writesFlags
   mnemonic-flags m =
       yes-column (writesFlags m)
       (column (λ m. 1295 + 16 * m) (λ m. bit (writesFlags m)) (λ m. 0) 46 tt (λ m h. ap bit (no-flags m h)) t e m)
 
   -- conditions: 8 bytes each, from 2016 on
-  pub condition-cmp : (k : ℕ) → pick (ltb k 17) (getD t (2016 + 8 * k) 0) 6 ≡ relationAfterCmp k
-  unfolding isaBytes registerNames registerName mnemonicNames mnemonicName relationAfterCmp
-  condition-cmp = column (λ k. 2016 + 8 * k) relationAfterCmp (λ k. 6) 17 tt none-after-cmp t e
+  pub condition-cmp : (k : ℕ) → pick (ltb k 17) (getD t (2016 + 8 * k) 0) no-relation ≡ relationAfterCmp k
+  unfolding isaBytes registerTable mnemonicTable conditionTable registerNames registerName mnemonicNames mnemonicName conditionNames conditionName relationAfterCmp
+  condition-cmp = column (λ k. 2016 + 8 * k) relationAfterCmp (λ k. no-relation) 17 tt none-after-cmp t e
 
-  pub condition-test : (k : ℕ) → pick (ltb k 17) (getD t (2017 + 8 * k) 0) 6 ≡ relationAfterTest k
-  unfolding isaBytes registerNames registerName mnemonicNames mnemonicName relationAfterTest
-  condition-test = column (λ k. 2017 + 8 * k) relationAfterTest (λ k. 6) 17 tt none-after-test t e
+  pub condition-test : (k : ℕ) → pick (ltb k 17) (getD t (2017 + 8 * k) 0) no-relation ≡ relationAfterTest k
+  unfolding isaBytes registerTable mnemonicTable conditionTable registerNames registerName mnemonicNames mnemonicName conditionNames conditionName relationAfterTest
+  condition-test = column (λ k. 2017 + 8 * k) relationAfterTest (λ k. no-relation) 17 tt none-after-test t e
 
-  pub condition-other : (k : ℕ) → pick (ltb k 17) (getD t (2018 + 8 * k) 0) 6 ≡ relationAfterOther k
-  unfolding isaBytes registerNames registerName mnemonicNames mnemonicName relationAfterOther
-  condition-other = column (λ k. 2018 + 8 * k) relationAfterOther (λ k. 6) 17 tt none-after-other t e
+  pub condition-other : (k : ℕ) → pick (ltb k 17) (getD t (2018 + 8 * k) 0) no-relation ≡ relationAfterOther k
+  unfolding isaBytes registerTable mnemonicTable conditionTable registerNames registerName mnemonicNames mnemonicName conditionNames conditionName relationAfterOther
+  condition-other = column (λ k. 2018 + 8 * k) relationAfterOther (λ k. no-relation) 17 tt none-after-other t e
 
   pub condition-unsigned : (k : ℕ) → eqb (pick (ltb k 17) (getD t (2019 + 8 * k) 0) 0) 1 ≡ printsUnsigned k
-  unfolding isaBytes registerNames registerName mnemonicNames mnemonicName conditionNames conditionName printsUnsigned
+  unfolding isaBytes registerTable mnemonicTable conditionTable registerNames registerName mnemonicNames mnemonicName conditionNames conditionName printsUnsigned
   condition-unsigned k =
       yes-column (printsUnsigned k)
       (column (λ k. 2019 + 8 * k) (λ k. bit (printsUnsigned k)) (λ k. 0) 17 tt (λ k h. ap bit (not-unsigned k h)) t e k)
 
   pub condition-negated : (k : ℕ) → pick (ltb k 17) (getD t (2020 + 8 * k) 0) k ≡ negate k
-  unfolding isaBytes registerNames registerName mnemonicNames mnemonicName negate
+  unfolding isaBytes registerTable mnemonicTable conditionTable registerNames registerName mnemonicNames mnemonicName negate
   condition-negated = column (λ k. 2020 + 8 * k) negate (λ k. k) 17 tt stays t e

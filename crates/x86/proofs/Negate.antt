@@ -8,9 +8,9 @@ use lib.Dec.{T}
 use Rattle.lists.specs.Choice.{allBelow}
 use Rattle.lists.specs.Every.{both-left, both-right, beq→eq}
 use Rattle.lists.specs.Below.{below-at}
-use Rattle.x86.specs.Flags.{Flags, holds}
+use Rattle.x86.specs.Flags.{Flags, conditionHolds}
 use Rattle.x86.specs.Conditions.{negate}
-use Rattle.x86.specs.FlagRule.{Turns}
+use Rattle.x86.specs.FlagRule.{Negates}
 
 -- a test at both values of a flag
 abbrev flag : (Bool → Bool) → Bool
@@ -37,17 +37,17 @@ settings-at p t f =
     (f .pf)) (f .zf)) (f .sf)) (f .of)
 
 turned : ℕ → Flags → Bool
-turned k f = Bool·beq (holds (negate (k + 1)) f) (not (holds (k + 1) f))
+turned k f = Bool·beq (conditionHolds (negate (k + 1)) f) (not (conditionHolds (k + 1) f))
 
 all-turned : T (allBelow (λ k. settings (turned k)) 16)
 unfolding negate turned
 all-turned = tt
 
-from-zero : (k : ℕ) → k < 16 → Turns (k + 1)
+from-zero : (k : ℕ) → k < 16 → Negates (k + 1)
 unfolding turned
 from-zero k h f =
-    beq→eq (holds (negate (k + 1)) f) (not (holds (k + 1) f))
+    beq→eq (conditionHolds (negate (k + 1)) f) (not (conditionHolds (k + 1) f))
     (settings-at (turned k) (below-at (λ j. settings (turned j)) 16 all-turned k h) f)
 
-pub negate-turns : (k : ℕ) → 1 ≤ k → k ≤ 16 → Turns k
-negate-turns k l h = let e : k - 1 + 1 ≡ k = omega arith in subst Turns e (from-zero (k - 1) (omega arith))
+pub negate-turns : (k : ℕ) → 1 ≤ k → k ≤ 16 → Negates k
+negate-turns k l h = let e : k - 1 + 1 ≡ k = omega arith in subst Negates e (from-zero (k - 1) (omega arith))

@@ -7,7 +7,7 @@ use Prim.Native.Nat.{ℕ, _/_, _%_, _≤_}
 use native.Mathlib.Omega.{arith}
 use borrow.Author.Tests.{lt-ltb, le-ltb, lt-leb, ne-eqb}
 use lib.ListN.{List·getD-eq-default}
-use Rattle.x86.specs.Conditions.{conditionNames, conditionName, cmpRelations, testRelations, otherRelations, relationAfterCmp, relationAfterTest, relationAfterOther, printsUnsigned, negate}
+use Rattle.x86.specs.Conditions.{conditionNames, conditionName, no-relation, relationAfterCmp, relationAfterTest, relationAfterOther, printsUnsigned, negate}
 use Rattle.x86.specs.Mnemonics.{mnemonicNames, mnemonicName, writesFlags}
 use Rattle.x86.specs.Registers.{registerNames, registerName, classSizes, registerExists, fullRegister, classBytes, registerSize}
 
@@ -45,17 +45,17 @@ module _ (k : ℕ) (h : 17 ≤ k) where
   unfolding conditionNames conditionName
   no-condition = List·getD-eq-default conditionNames [] h
 
-  pub none-after-cmp : relationAfterCmp k ≡ 6
+  pub none-after-cmp : relationAfterCmp k ≡ no-relation
   unfolding relationAfterCmp
-  none-after-cmp = List·getD-eq-default cmpRelations 6 h
+  none-after-cmp = rw no-condition
 
-  pub none-after-test : relationAfterTest k ≡ 6
+  pub none-after-test : relationAfterTest k ≡ no-relation
   unfolding relationAfterTest
-  none-after-test = List·getD-eq-default testRelations 6 h
+  none-after-test = rw no-condition
 
-  pub none-after-other : relationAfterOther k ≡ 6
+  pub none-after-other : relationAfterOther k ≡ no-relation
   unfolding relationAfterOther
-  none-after-other = List·getD-eq-default otherRelations 6 h
+  none-after-other = rw no-condition
 
   pub not-unsigned : printsUnsigned k ≡ false
   unfolding printsUnsigned

@@ -1,4 +1,4 @@
--- The leading zeros of the packed positions give how many registers stand up to the last that is written.
+-- The leading zeros of the positions give how many registers stand up to the last that is written.
 -- By induction on the list of registers: a number of k bits has one leading zero less than its half has of k - 1, unless it is 0.
 use mathlib.Core.Path.{_≡_, refl, ap, sym, _∙_}
 use mathlib.Core.Bool.{_||_}
@@ -12,7 +12,7 @@ use lib.Count.{leadingZeros, leading-of-zero, leading-le}
 use lib.Dec.{eqb, ltb}
 use lib.ListN.{length}
 use Rattle.lists.specs.Choice.{pick}
-use Rattle.x86.specs.Conventions.{written, anyWritten, upToLast, packed}
+use Rattle.x86.specs.Conventions.{written, anyWritten, upToLast, positions}
 
 bit-or : (b p : ℕ) → b < 2 → (eqb b 1 || ltb 0 p) ≡ ltb 0 (b + 2 * p)
 bit-or zero p h = go (decLt 0 p)
@@ -31,18 +31,18 @@ step j b p (suc n) u h e ih =
     rw (q, lt-ltb 0 (suc n) (omega arith)) (omega (arith, leading-le j p))
 
 module _ (mask : ℕ) where
-  any-packed : (rs : List ℕ) → anyWritten mask rs ≡ ltb 0 (packed mask rs)
+  any-positions : (rs : List ℕ) → anyWritten mask rs ≡ ltb 0 (positions mask rs)
   unfolding written
-  any-packed [] = refl
-  any-packed (r ∷ rs) = rw (any-packed rs) (bit-or (mask / 2 ^ (r - 80) % 2) (packed mask rs) (omega arith))
+  any-positions [] = refl
+  any-positions (r ∷ rs) = rw (any-positions rs) (bit-or (mask / 2 ^ (r - 80) % 2) (positions mask rs) (omega arith))
 
-  pub up-to-last : (rs : List ℕ) (k : ℕ) → length rs ≤ k → k - leadingZeros k (packed mask rs) ≡ upToLast mask rs
+  pub up-to-last : (rs : List ℕ) (k : ℕ) → length rs ≤ k → k - leadingZeros k (positions mask rs) ≡ upToLast mask rs
   up-to-last [] k h = rw (leading-of-zero k) (omega arith)
   up-to-last (r ∷ rs) zero h = absurd (not-suc-le-zero h)
   up-to-last (r ∷ rs) (suc k) h =
-      rw (any-packed (r ∷ rs))
-      (step k (mask / 2 ^ (r - 80) % 2) (packed mask rs) (packed mask (r ∷ rs)) (upToLast mask rs) (omega arith) refl (up-to-last rs k (le-of-suc-le-suc h)))
+      rw (any-positions (r ∷ rs))
+      (step k (mask / 2 ^ (r - 80) % 2) (positions mask rs) (positions mask (r ∷ rs)) (upToLast mask rs) (omega arith) refl (up-to-last rs k (le-of-suc-le-suc h)))
 
   -- as the code has it, at 16 bits
-  pub counted : (rs : List ℕ) (p r : ℕ) → length rs ≤ 16 → p ≡ packed mask rs → r ≡ 16 - leadingZeros 16 p → r ≡ upToLast mask rs
+  pub counted : (rs : List ℕ) (p r : ℕ) → length rs ≤ 16 → p ≡ positions mask rs → r ≡ 16 - leadingZeros 16 p → r ≡ upToLast mask rs
   counted rs p r h e c = c ∙ ap (λ (n : ℕ). 16 - leadingZeros 16 n) e ∙ up-to-last rs 16 h

@@ -1,20 +1,20 @@
 -- The flag rule, whole: after CMP and after TEST each condition that is printed as a relation holds exactly when the relation does.
 -- One law a condition, put in the order of the conditions' numbers; a number that is printed as none is excluded.
-use mathlib.Core.Path.{_≡_, refl, ap, sym, _∙_}
+use mathlib.Core.Path.{_≡_, refl, ap, sym, subst, _∙_}
 use Prim.Native.Nat.{ℕ, zero, suc, _^_, _≤_, _<_}
 use Prim.Native.String.{String}
-use mathlib.Core.Bool.{false, Bool·beq}
+use mathlib.Core.Bool.{true, false, Bool·beq}
 use mathlib.Core.List.{[]}
 use native.Mathlib.Decide.{decLt}
 use native.Mathlib.Omega.{arith}
 use lib.Bits.{bitAnd, and-self}
-use lib.Dec.{T, ltb}
+use lib.Dec.{T}
 use lib.IntN.{pos}
 use Rattle.lists.specs.Choice.{allBelow}
-use Rattle.x86.specs.Conditions.{conditionNames, conditionName, among, relationAfterCmp, relationAfterTest, relationAfterOther, related, printsUnsigned}
-use Rattle.x86.specs.FlagRule.{FlagRule, Printed, Rule, readFor}
-use Rattle.x86.specs.Flags.{cmp, test, holds, signed}
-use Rattle.x86.specs.Words.{words, isWordOf}
+use Rattle.x86.specs.Conditions.{conditionNames, conditionName, among, isRelation, isEquality, no-relation, relationAfterCmp, relationAfterTest, relationAfterOther, related, printsUnsigned}
+use Rattle.x86.specs.FlagRule.{FlagRule, RelationPrinted, Rule, readFor}
+use Rattle.x86.specs.Flags.{cmp, test, conditionHolds, signed}
+use Rattle.x86.specs.Words.{wordsOf, isWordOf}
 use Rattle.lists.specs.Every.{beq→eq}
 use Rattle.lists.specs.Below.{below-at}
 use Rattle.x86.proofs.Cmp.{cmp-same, cmp-unlike, cmp-e, cmp-ne, cmp-b, cmp-ae, cmp-be, cmp-a, cmp-l, cmp-ge, cmp-le, cmp-g}
@@ -37,16 +37,13 @@ _▸_ {P} z s = record { at = first P z (s .at) }
 rest : {P : ℕ → Type 0} → ((k : ℕ) → P k) → Each P
 rest f = record { at = f }
 
--- 6 is printed as none
-never : {A : Type 0} → 6 < 6 → A
-never x = absurd (omega arith)
-
-past : {A : Type 0} {n : ℕ} → suc (suc n) < 2 → A
-past x = absurd (omega arith)
+-- a test that fails does not hold
+never : {A : Type 0} → false ≡ true → A
+never x = absurd (subst T (sym x) tt)
 
 module _ (w a b : ℕ) (h : 1 ≤ w) (ha : a < 2 ^ w) (hb : b < 2 ^ w) where
   abbrev Cmp : ℕ → Type 0
-  Cmp k = relationAfterCmp k < 6 → related (relationAfterCmp k) (readFor k w a) (readFor k w b) ≡ holds k (cmp w a b)
+  Cmp k = isRelation (relationAfterCmp k) ≡ true → related (relationAfterCmp k) (readFor k w a) (readFor k w b) ≡ conditionHolds k (cmp w a b)
 
   cmp-right : Each Cmp
   unfolding relationAfterCmp related printsUnsigned conditionNames conditionName
@@ -59,24 +56,24 @@ module _ (w a b : ℕ) (h : 1 ≤ w) (ha : a < 2 ^ w) (hb : b < 2 ^ w) where
       ▸ rest (λ n. never)
 
   abbrev Alike : ℕ → Type 0
-  Alike k = relationAfterCmp k < 2 → related (relationAfterCmp k) (pos a) (pos b) ≡ holds k (cmp w a b)
+  Alike k = isEquality (relationAfterCmp k) ≡ true → related (relationAfterCmp k) (pos a) (pos b) ≡ conditionHolds k (cmp w a b)
 
   cmp-unsigned : Each Alike
-  unfolding relationAfterCmp related
+  unfolding relationAfterCmp related conditionNames conditionName
   cmp-unsigned =
-      past
-      ▸ past ▸ past ▸ past ▸ past
-      ▸ (λ x. cmp-same w a b h ha hb) ▸ (λ x. cmp-unlike w a b h ha hb) ▸ past ▸ past
-      ▸ past ▸ past ▸ past ▸ past
-      ▸ past ▸ past ▸ past ▸ past
-      ▸ rest (λ n. past)
+      never
+      ▸ never ▸ never ▸ never ▸ never
+      ▸ (λ x. cmp-same w a b h ha hb) ▸ (λ x. cmp-unlike w a b h ha hb) ▸ never ▸ never
+      ▸ never ▸ never ▸ never ▸ never
+      ▸ never ▸ never ▸ never ▸ never
+      ▸ rest (λ n. never)
 
 module _ (w a b : ℕ) where
   abbrev Test : ℕ → Type 0
-  Test k = relationAfterTest k < 6 → related (relationAfterTest k) (signed w (bitAnd a b)) (pos 0) ≡ holds k (test w a b)
+  Test k = isRelation (relationAfterTest k) ≡ true → related (relationAfterTest k) (signed w (bitAnd a b)) (pos 0) ≡ conditionHolds k (test w a b)
 
   test-right : Each Test
-  unfolding relationAfterTest related
+  unfolding relationAfterTest related conditionNames conditionName
   test-right =
       never
       ▸ never ▸ never ▸ never ▸ never
@@ -85,8 +82,8 @@ module _ (w a b : ℕ) where
       ▸ (λ x. test-l w a b) ▸ (λ x. test-ge w a b) ▸ (λ x. test-le w a b) ▸ (λ x. test-g w a b)
       ▸ rest (λ n. never)
 
-  test-alike : a ≡ b → (k : ℕ) → relationAfterTest k < 6
-      → related (relationAfterTest k) (signed w a) (pos 0) ≡ holds k (test w a b)
+  test-alike : a ≡ b → (k : ℕ) → isRelation (relationAfterTest k) ≡ true
+      → related (relationAfterTest k) (signed w a) (pos 0) ≡ conditionHolds k (test w a b)
   test-alike e k x =
       let s : bitAnd a b ≡ a = ap (bitAnd a) (sym e) ∙ and-self a in
       ap (λ (n : ℕ). related (relationAfterTest k) (signed w n) (pos 0)) (sym s) ∙ test-right .at k x
@@ -102,15 +99,15 @@ flag-rule w h =
     }
 
 -- one computed test of the numbers below 17; past them nothing is printed, and no name is there
-named : (f : ℕ → ℕ) (names : String) → T (allBelow (λ k. Bool·beq (ltb (f k) 6) (among k names)) 17)
-    → isWordOf [] (words names) ≡ false → ((k : ℕ) → 17 ≤ k → f k ≡ 6) → (k : ℕ) → ltb (f k) 6 ≡ among k names
+named : (f : ℕ → ℕ) (names : String) → T (allBelow (λ k. Bool·beq (isRelation (f k)) (among k names)) 17)
+    → isWordOf [] (wordsOf names) ≡ false → ((k : ℕ) → 17 ≤ k → f k ≡ no-relation) → (k : ℕ) → isRelation (f k) ≡ among k names
 named f names ok e none k =
     elim (decLt k 17) [
-      | yes h ↦ beq→eq (ltb (f k) 6) (among k names) (below-at (λ j. Bool·beq (ltb (f j) 6) (among j names)) 17 ok k h)
+      | yes h ↦ beq→eq (isRelation (f k)) (among k names) (below-at (λ j. Bool·beq (isRelation (f j)) (among j names)) 17 ok k h)
       | no h ↦ let g : 17 ≤ k = omega arith in rw (none k g, no-condition k g, e)
     ]
 
-printed-named : Printed
+printed-named : RelationPrinted
 unfolding relationAfterCmp relationAfterTest relationAfterOther conditionNames conditionName
 printed-named =
     record {

@@ -12,7 +12,7 @@ use lib.Bits.{bitAnd}
 use lib.IntN.{ℤ, pos}
 use lib.Signed.{ltZ, leZ}
 use Rattle.x86.specs.Conditions.{eqZ}
-use Rattle.x86.specs.Flags.{half, signed, test, unlike, holds}
+use Rattle.x86.specs.Flags.{half, signed, test, unlike, conditionHolds}
 use Rattle.x86.proofs.Cmp.{signed-low, signed-high, not-ltZ, not-leZ, lt-or-eq}
 
 unlike-false : (b : Bool) → unlike b false ≡ b
@@ -45,26 +45,26 @@ module _ (w a b : ℕ) where
   abbrev r : ℤ
   r = signed w (bitAnd a b)
 
-  pub test-e : eqZ r (pos 0) ≡ holds 5 (test w a b)
+  pub test-e : eqZ r (pos 0) ≡ conditionHolds 5 (test w a b)
   test-e = sym (zero-right w (bitAnd a b))
 
-  pub test-ne : not (eqZ r (pos 0)) ≡ holds 6 (test w a b)
+  pub test-ne : not (eqZ r (pos 0)) ≡ conditionHolds 6 (test w a b)
   test-ne = ap not test-e
 
-  pub test-s : ltZ r (pos 0) ≡ holds 9 (test w a b)
+  pub test-s : ltZ r (pos 0) ≡ conditionHolds 9 (test w a b)
   test-s = sym (sign-right w (bitAnd a b))
 
-  pub test-ns : leZ (pos 0) r ≡ holds 10 (test w a b)
+  pub test-ns : leZ (pos 0) r ≡ conditionHolds 10 (test w a b)
   test-ns = sym (not-ltZ r (pos 0)) ∙ ap not test-s
 
-  pub test-l : ltZ r (pos 0) ≡ holds 13 (test w a b)
-  test-l = test-s ∙ sym (unlike-false (holds 9 (test w a b)))
+  pub test-l : ltZ r (pos 0) ≡ conditionHolds 13 (test w a b)
+  test-l = test-s ∙ sym (unlike-false (conditionHolds 9 (test w a b)))
 
-  pub test-ge : leZ (pos 0) r ≡ holds 14 (test w a b)
+  pub test-ge : leZ (pos 0) r ≡ conditionHolds 14 (test w a b)
   test-ge = sym (not-ltZ r (pos 0)) ∙ ap not test-l
 
-  pub test-le : leZ r (pos 0) ≡ holds 15 (test w a b)
+  pub test-le : leZ r (pos 0) ≡ conditionHolds 15 (test w a b)
   test-le = rw (unlike-false, sign-right w (bitAnd a b)) (sym (below-or-zero w (bitAnd a b)))
 
-  pub test-g : ltZ (pos 0) r ≡ holds 16 (test w a b)
+  pub test-g : ltZ (pos 0) r ≡ conditionHolds 16 (test w a b)
   test-g = sym (not-leZ r (pos 0)) ∙ ap not test-le

@@ -41,9 +41,9 @@ unfoldable pub argumentCount : ℕ → ℕ → ℕ
 argumentCount convention mask = upToLast mask (argumentRegisters convention)
 
 -- "Convention positions written are packed as a mask": bit k for register k of the list
-abbrev pub packed : ℕ → List ℕ → ℕ
-packed mask [] = 0
-packed mask (r ∷ rs) = mask / 2 ^ (r - 80) % 2 + 2 * packed mask rs
+abbrev pub positions : ℕ → List ℕ → ℕ
+positions mask [] = 0
+positions mask (r ∷ rs) = mask / 2 ^ (r - 80) % 2 + 2 * positions mask rs
 
 -- "A u16 mask gains a bit by shift when a full register is written"; one that is no qword register adds nothing
 unfoldable pub withWritten : ℕ → ℕ → ℕ

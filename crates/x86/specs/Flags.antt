@@ -60,8 +60,8 @@ unlike true b = not b
 unlike false b = b
 
 -- whether condition k holds: 0 none, then o no b ae e ne be a s ns p np l ge le g as 1 to 16
-abbrev pub holds : ℕ → Flags → Bool
-holds k f =
+abbrev pub conditionHolds : ℕ → Flags → Bool
+conditionHolds k f =
     getD
     (false
     ∷ f .of ∷ not (f .of)

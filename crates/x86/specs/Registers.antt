@@ -8,7 +8,7 @@ use lib.Dec.{eqb, leb, ltb}
 use lib.ListN.{getD, length}
 use Rattle.lists.specs.Ascii.{ascii}
 use Rattle.lists.specs.Choice.{pick}
-use Rattle.x86.specs.Words.{words, isOneOf}
+use Rattle.x86.specs.Words.{wordsOf, isOneOf}
 
 abbrev pub classSizes : List ℕ
 classSizes = 0 ∷ 16 ∷ 4 ∷ 16 ∷ 16 ∷ 16 ∷ 2 ∷ 6 ∷ 16 ∷ 16 ∷ []
@@ -25,15 +25,15 @@ registerExists r = eqb r 0 || ltb (r % 16) (classSize (r / 16))
 unfoldable pub registerNames : List (List (List ℕ))
 registerNames =
     []
-    ∷ words "al cl dl bl spl bpl sil dil r8l r9l r10l r11l r12l r13l r14l r15l"
-    ∷ words "ah ch dh bh"
-    ∷ words "ax cx dx bx sp bp si di r8w r9w r10w r11w r12w r13w r14w r15w"
-    ∷ words "eax ecx edx ebx esp ebp esi edi r8d r9d r10d r11d r12d r13d r14d r15d"
-    ∷ words "rax rcx rdx rbx rsp rbp rsi rdi r8 r9 r10 r11 r12 r13 r14 r15"
-    ∷ words "eip rip"
-    ∷ words "es cs ss ds fs gs"
-    ∷ words "xmm0 xmm1 xmm2 xmm3 xmm4 xmm5 xmm6 xmm7 xmm8 xmm9 xmm10 xmm11 xmm12 xmm13 xmm14 xmm15"
-    ∷ words "ymm0 ymm1 ymm2 ymm3 ymm4 ymm5 ymm6 ymm7 ymm8 ymm9 ymm10 ymm11 ymm12 ymm13 ymm14 ymm15"
+    ∷ wordsOf "al cl dl bl spl bpl sil dil r8l r9l r10l r11l r12l r13l r14l r15l"
+    ∷ wordsOf "ah ch dh bh"
+    ∷ wordsOf "ax cx dx bx sp bp si di r8w r9w r10w r11w r12w r13w r14w r15w"
+    ∷ wordsOf "eax ecx edx ebx esp ebp esi edi r8d r9d r10d r11d r12d r13d r14d r15d"
+    ∷ wordsOf "rax rcx rdx rbx rsp rbp rsi rdi r8 r9 r10 r11 r12 r13 r14 r15"
+    ∷ wordsOf "eip rip"
+    ∷ wordsOf "es cs ss ds fs gs"
+    ∷ wordsOf "xmm0 xmm1 xmm2 xmm3 xmm4 xmm5 xmm6 xmm7 xmm8 xmm9 xmm10 xmm11 xmm12 xmm13 xmm14 xmm15"
+    ∷ wordsOf "ymm0 ymm1 ymm2 ymm3 ymm4 ymm5 ymm6 ymm7 ymm8 ymm9 ymm10 ymm11 ymm12 ymm13 ymm14 ymm15"
     ∷ []
 
 -- each class has as many names as registers
@@ -70,7 +70,7 @@ fs = 116
 abbrev pub gs : ℕ
 gs = 117
 
-pub registers-numbered : map registerName (esp ∷ rsp ∷ eip ∷ rip ∷ fs ∷ gs ∷ []) ≡ words "esp rsp eip rip fs gs"
+pub registers-numbered : map registerName (esp ∷ rsp ∷ eip ∷ rip ∷ fs ∷ gs ∷ []) ≡ wordsOf "esp rsp eip rip fs gs"
 unfolding registerNames registerName
 registers-numbered = refl
 

@@ -4,7 +4,7 @@ use mathlib.Core.List.{List, []}
 use lib.Dec.{eqb}
 use lib.ListN.{getD}
 use Rattle.lists.specs.Choice.{pick}
-use Rattle.x86.specs.Words.{words}
+use Rattle.x86.specs.Words.{wordsOf}
 
 -- the type words are those of 1, 2, 4, 8, 16 and 32 bytes, and last the word for any other size
 abbrev pub sizeIndex : ℕ → ℕ
@@ -12,7 +12,7 @@ sizeIndex n =
     pick (eqb n 1) 0 (pick (eqb n 2) 1 (pick (eqb n 4) 2 (pick (eqb n 8) 3 (pick (eqb n 16) 4 (pick (eqb n 32) 5 6)))))
 
 unfoldable pub sizeTypes : List (List ℕ)
-sizeTypes = words "uint8_t uint16_t uint32_t uint64_t __m128 __m256 void"
+sizeTypes = wordsOf "uint8_t uint16_t uint32_t uint64_t __m128 __m256 void"
 
 unfoldable pub sizeType : ℕ → List ℕ
 sizeType n = getD sizeTypes (sizeIndex n) []
@@ -22,7 +22,7 @@ abbrev pub prefixIndex : ℕ → ℕ
 prefixIndex n = pick (eqb n 1) 0 (pick (eqb n 2) 1 (pick (eqb n 4) 2 (pick (eqb n 8) 3 4)))
 
 unfoldable pub sizePrefixes : List (List ℕ)
-sizePrefixes = words "byte_ word_ dword_ qword_ unk_"
+sizePrefixes = wordsOf "byte_ word_ dword_ qword_ unk_"
 
 unfoldable pub sizePrefix : ℕ → List ℕ
 sizePrefix n = getD sizePrefixes (prefixIndex n) []

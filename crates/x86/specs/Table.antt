@@ -1,4 +1,4 @@
--- The table that is made once and lent: an entry a number, packed from the definitions. "Constant arrays give spelling, full
+-- The table: an entry a number, made from the definitions. "Constant arrays give spelling, full
 -- register, flag effect and conditions by number."
 use Prim.Native.Nat.{ℕ, zero, suc, _+_, _-_}
 use mathlib.Core.Bool.{Bool, true, false}
@@ -35,9 +35,18 @@ abbrev pub entries : (ℕ → List ℕ) → ℕ → ℕ → List ℕ
 entries f i zero = []
 entries f i (suc n) = f i ++ entries f (suc i) n
 
+unfoldable pub registerTable : List ℕ
+registerTable = entries registerEntry 0 160
+
+unfoldable pub mnemonicTable : List ℕ
+mnemonicTable = entries mnemonicEntry 0 46
+
+unfoldable pub conditionTable : List ℕ
+conditionTable = entries conditionEntry 0 17
+
 -- the registers at 0, the mnemonics at 1280, the conditions at 2016
 unfoldable pub isaBytes : List ℕ
-isaBytes = entries registerEntry 0 160 ++ (entries mnemonicEntry 0 46 ++ entries conditionEntry 0 17)
+isaBytes = registerTable ++ (mnemonicTable ++ conditionTable)
 
 -- a text as `padded` keeps it: its length, then its bytes
 abbrev pub textAt : List ℕ → ℕ → List ℕ

@@ -17,8 +17,8 @@ abbrev pub split : List ℕ → List (List ℕ)
 split [] = [] ∷ []
 split (b ∷ s) = pick (eqb b 32) ([] ∷ split s) (grown b (split s))
 
-abbrev pub words : String → List (List ℕ)
-words s = split (ascii s)
+abbrev pub wordsOf : String → List (List ℕ)
+wordsOf s = split (ascii s)
 
 abbrev pub isOneOf : ℕ → List ℕ → Bool
 isOneOf n [] = false

@@ -1,4 +1,4 @@
-// Conditions by number, from the lent table. A relation is 0 ==, 1 !=, 2 <, 3 >=, 4 <=, 5 >, and 6 for none.
+// Conditions by number, from the table. A relation is 0 ==, 1 !=, 2 <, 3 >=, 4 <=, 5 >, and 6 for none.
 ghost use mathlib.Core.Path.{_≡_};
 ghost use Rattle.x86.specs.Conditions.{relationAfterCmp, relationAfterTest, relationAfterOther, printsUnsigned};
 ghost use Rattle.x86.specs.Conditions.{negate as negated};

@@ -2,7 +2,7 @@
 ghost use mathlib.Core.Path.{_≡_};
 ghost use Prim.Native.Nat.{_-_};
 ghost use lib.Count.{leadingZeros};
-ghost use Rattle.x86.specs.Conventions.{argumentRegister, argumentCount, withWritten, packed, microsoft, systemV};
+ghost use Rattle.x86.specs.Conventions.{argumentRegister, argumentCount, withWritten, positions, microsoft, systemV};
 
 const MICROSOFT: [u8; 4] = [81, 82, 88, 89];
 
@@ -39,14 +39,14 @@ pub fn with_written(mask: u16, full: u8) -> u16
 
 // Bit k for the k-th register of Microsoft's convention: rcx rdx r8 r9.
 fn microsoft_positions(mask: u16) -> u16
-    ensures { λ p. ⌜ p ≡ packed mask microsoft ⌝ }
+    ensures { λ p. ⌜ p ≡ positions mask microsoft ⌝ }
 {
     (mask >> 1) % 2 + 2 * ((mask >> 2) % 2 + 2 * ((mask >> 8) % 2 + 2 * ((mask >> 9) % 2)))
 }
 
 // Bit k for the k-th register of System V's: rdi rsi rdx rcx r8 r9.
 fn system_v_positions(mask: u16) -> u16
-    ensures { λ p. ⌜ p ≡ packed mask systemV ⌝ }
+    ensures { λ p. ⌜ p ≡ positions mask systemV ⌝ }
 {
     let low = (mask >> 7) % 2 + 2 * ((mask >> 6) % 2 + 2 * ((mask >> 2) % 2));
     low + 8 * ((mask >> 1) % 2 + 2 * ((mask >> 8) % 2 + 2 * ((mask >> 9) % 2)))

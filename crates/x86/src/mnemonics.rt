@@ -1,4 +1,4 @@
-// Mnemonics by number, from the lent table.
+// Mnemonics by number, from the table.
 ghost use mathlib.Core.Path.{_≡_};
 ghost use Rattle.x86.specs.Mnemonics.{mnemonicName, writesFlags};
 ghost use Rattle.x86.specs.Table.{isaBytes};

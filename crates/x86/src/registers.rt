@@ -24,7 +24,7 @@ pub fn register_exists(r: u16) -> bool
     (r == 0) | (r % 16 < class_size(r / 16))
 }
 
-// The same of a byte, by the lent table: a register that exists has a name.
+// The same of a byte, by the table: a register that exists has a name.
 pub fn register_named(isa: &[u8], r: u8) -> bool
     requires { ⌜ now isa ≡ isaBytes ⌝ }
     ensures { λ b. ⌜ b ≡ registerExists r ⌝ }

@@ -1,19 +1,19 @@
 // The table of registers, mnemonics and conditions: made once by a caller and lent to each function that reads it.
 ghost use mathlib.Core.Path.{_≡_};
+ghost use mathlib.Core.List.{_++_};
 ghost use Prim.Native.Nat.{_+_, _*_};
 ghost use lib.Dec.{ltb};
 ghost use Rattle.lists.specs.Bytes.{u8At};
 ghost use Rattle.lists.specs.Choice.{pick};
-ghost use Rattle.x86.specs.Table.{isaBytes, textAt};
+ghost use Rattle.lists.specs.Put.{put};
+ghost use Rattle.x86.specs.Table.{registerTable, mnemonicTable, conditionTable, isaBytes, textAt};
 use lists::reads::from;
 use lists::reads::u8_at;
 use lists::reads::within;
+use lists::stores::put_bytes;
 
-// 160 registers of 8 bytes (length, name, full register, size), 46 mnemonics of 16 (length, name, flag effect) and
-// 17 conditions of 8 (relation after cmp, after test, after the other writers, unsigned, negated).
-pub type Table = [u8; 2152];
-
-const ISA: Table = *b"\
+// 160 registers of 8 bytes: length, name, full register, size.
+const REGISTERS: [u8; 1280] = *b"\
     \x04none\0\0\0\0\0\0\0\0\0\x01\0\0\0\0\0\0\0\x02\0\0\0\0\0\0\0\x03\0\
     \0\0\0\0\0\0\x04\0\0\0\0\0\0\0\x05\0\0\0\0\0\0\0\x06\0\0\0\0\0\0\0\x07\0\
     \0\0\0\0\0\0\x08\0\0\0\0\0\0\0\x09\0\0\0\0\0\0\0\x0a\0\0\0\0\0\0\0\x0b\0\
@@ -53,7 +53,10 @@ const ISA: Table = *b"\
     \x04ymm0\0\x90\x20\x04ymm1\0\x91\x20\x04ymm2\0\x92\x20\x04ymm3\0\x93\x20\
     \x04ymm4\0\x94\x20\x04ymm5\0\x95\x20\x04ymm6\0\x96\x20\x04ymm7\0\x97\x20\
     \x04ymm8\0\x98\x20\x04ymm9\0\x99\x20\x05ymm10\x9a\x20\x05ymm11\x9b\x20\
-    \x05ymm12\x9c\x20\x05ymm13\x9d\x20\x05ymm14\x9e\x20\x05ymm15\x9f\x20\
+    \x05ymm12\x9c\x20\x05ymm13\x9d\x20\x05ymm14\x9e\x20\x05ymm15\x9f\x20";
+
+// 46 mnemonics of 16 bytes: length, name, flag effect.
+const MNEMONICS: [u8; 736] = *b"\
     \0\0\0\0\0\0\0\0\0\0\0\0\0\0\0\0\x03mov\0\0\0\0\0\0\0\0\0\0\0\0\
     \x05movzx\0\0\0\0\0\0\0\0\0\0\x05movsx\0\0\0\0\0\0\0\0\0\0\
     \x06movsxd\0\0\0\0\0\0\0\0\0\x03lea\0\0\0\0\0\0\0\0\0\0\0\0\
@@ -76,18 +79,61 @@ const ISA: Table = *b"\
     \x03cmp\0\0\0\0\0\0\0\0\0\0\0\x01\x04test\0\0\0\0\0\0\0\0\0\0\x01\
     \x02bt\0\0\0\0\0\0\0\0\0\0\0\0\x01\x05leave\0\0\0\0\0\0\0\0\0\0\
     \x03nop\0\0\0\0\0\0\0\0\0\0\0\0\x04int3\0\0\0\0\0\0\0\0\0\0\0\
-    \x07endbr64\0\0\0\0\0\0\0\0\x07endbr32\0\0\0\0\0\0\0\0\
+    \x07endbr64\0\0\0\0\0\0\0\0\x07endbr32\0\0\0\0\0\0\0\0";
+
+// 17 conditions of 8 bytes: relation after cmp, after test, after the other writers, unsigned, negated.
+const CONDITIONS: [u8; 136] = *b"\
     \x06\x06\x06\0\0\0\0\0\x06\x06\x06\0\x02\0\0\0\x06\x06\x06\0\x01\0\0\0\x02\x06\x06\x01\x04\0\0\0\
     \x03\x06\x06\x01\x03\0\0\0\0\0\0\0\x06\0\0\0\x01\x01\x01\0\x05\0\0\0\x04\x06\x06\x01\x08\0\0\0\
     \x05\x06\x06\x01\x07\0\0\0\x06\x02\x02\0\x0a\0\0\0\x06\x03\x03\0\x09\0\0\0\x06\x06\x06\0\x0c\0\0\0\
     \x06\x06\x06\0\x0b\0\0\0\x02\x02\x06\0\x0e\0\0\0\x03\x03\x06\0\x0d\0\0\0\x04\x04\x06\0\x10\0\0\0\
     \x05\x05\x06\0\x0f\0\0\0";
 
-// The table itself.
+fn registers() -> [u8; 1280]
+    ensures { λ t. ⌜ t ≡ registerTable ⌝ }
+{
+    REGISTERS
+}
+
+fn mnemonics() -> [u8; 736]
+    ensures { λ t. ⌜ t ≡ mnemonicTable ⌝ }
+{
+    MNEMONICS
+}
+
+fn conditions() -> [u8; 136]
+    ensures { λ t. ⌜ t ≡ conditionTable ⌝ }
+{
+    CONDITIONS
+}
+
+// The bytes of s, then those of t.
+fn put_two(out: &mut [u8], s: &[u8], t: &[u8])
+    ensures { λ _. ⌜ now (out .exit) ≡ put 0 (now (s .entry) ++ now (t .entry)) (now (out .entry)) ⌝ }
+{
+    let n = put_bytes(out, s);
+    let m = within(n, out.len());
+    put_bytes(&mut out[m..], t);
+}
+
+// The bytes of s, then those of t, then those of u.
+fn put_three(out: &mut [u8], s: &[u8], t: &[u8], u: &[u8])
+    ensures { λ _. ⌜ now (out .exit) ≡ put 0 (now (s .entry) ++ (now (t .entry) ++ now (u .entry))) (now (out .entry)) ⌝ }
+{
+    let n = put_bytes(out, s);
+    let m = within(n, out.len());
+    put_two(&mut out[m..], t, u);
+}
+
+// The three tables, one after the other.
+pub type Table = [u8; 2152];
+
 pub fn isa() -> Table
     ensures { λ t. ⌜ t ≡ isaBytes ⌝ }
 {
-    ISA
+    let mut all: Table = [0; 2152];
+    put_three(&mut all, &registers(), &mnemonics(), &conditions());
+    all
 }
 
 // The byte of number k in a column of n numbers, and `other` past them.

@@ -1,5 +1,5 @@
 -- `x86::conventions::argument_count` counts the registers up to the last that is written.
--- The leading zeros of the packed positions, by the law over any list of registers.
+-- The leading zeros of the positions, by the law over any list of registers.
 use native.Mathlib.Omega.{arith}
 use borrow.Author.Tests.{eq-eqb, ne-eqb}
 use Rattle.x86.specs.Conventions.{microsoft, systemV, argumentRegisters, argumentCount}

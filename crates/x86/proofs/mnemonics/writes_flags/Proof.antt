@@ -1,5 +1,5 @@
 -- `x86::mnemonics::writes_flags` answers what the definition says of every number.
--- The column of the lent table, at the number.
+-- The column of the table, at the number.
 use Rattle.x86.proofs.Columns.{mnemonic-flags}
 use borrow.Author.Needs.{needs}
 use Rattle.x86.proofs.mnemonics.writes_flags.Statement.{statement}

@@ -1,5 +1,5 @@
 -- `x86::registers::register_named` says which numbers are registers.
--- The names' lengths in the lent table, at the number.
+-- The names' lengths in the table, at the number.
 use Rattle.x86.proofs.Columns.{register-named}
 use borrow.Author.Needs.{needs}
 use Rattle.x86.proofs.registers.register_named.Statement.{statement}

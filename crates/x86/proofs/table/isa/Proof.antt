@@ -1,16 +1,52 @@
--- `x86::table::isa` is the table that the definitions pack.
--- One computed test over all of its bytes.
+-- `x86::table::isa` is the three tables, one after the other.
+-- Each is its definition's, and together they fill the list.
 use mathlib.Core.Path.{refl}
-use Rattle.x86.specs.Conditions.{conditionNames, conditionName, relationAfterCmp, relationAfterTest, relationAfterOther, printsUnsigned, negate}
-use Rattle.x86.specs.Mnemonics.{mnemonicNames, mnemonicName, writesFlags}
-use Rattle.x86.specs.Registers.{registerNames, registerName, fullRegister, registerSize}
-use Rattle.x86.specs.Table.{isaBytes}
+use Rattle.x86.proofs.Joined.{joined}
+use borrow.Author.Needs.{needs}
 use Rattle.x86.proofs.table.isa.Statement.{statement}
 use Rattle.x86.proofs.table.isa.Tie as tie
 
+slice-aggregate-put-three : tie.Need-slice-aggregate-put-three
+slice-aggregate-put-three c = search needs
+
+registers-requires : tie.Need-registers-requires
+registers-requires c κs = search needs
+
+slice-aggregate-put-three-2 : tie.Need-slice-aggregate-put-three-2
+slice-aggregate-put-three-2 c = search needs
+
+mnemonics-requires : tie.Need-mnemonics-requires
+mnemonics-requires c κs = search needs
+
+slice-aggregate-put-three-3 : tie.Need-slice-aggregate-put-three-3
+slice-aggregate-put-three-3 c = search needs
+
+conditions-requires : tie.Need-conditions-requires
+conditions-requires c κs = search needs
+
+slice-aggregate-put-three-4 : tie.Need-slice-aggregate-put-three-4
+slice-aggregate-put-three-4 c = search needs
+
+put-three-requires : tie.Need-put-three-requires
+put-three-requires c κs = search needs
+
 returns : tie.Need-returns
-unfolding isaBytes registerNames registerName fullRegister registerSize mnemonicNames mnemonicName writesFlags relationAfterCmp relationAfterTest relationAfterOther conditionNames conditionName printsUnsigned negate
-returns c = refl
+returns c =
+    let t = c .before in
+    let k = t .before .before in
+    let m = k .before .before in
+    joined _ _ _ _ _ (m .before .before .registers .ensures) (m .mnemonics .ensures) (k .conditions .ensures) refl (t .put-three .ensures)
 
 pub isa-spec : {M : Type 1} → statement M
-isa-spec = tie.close (tie.spec returns)
+isa-spec =
+    tie.close
+    (tie.spec
+    slice-aggregate-put-three
+    registers-requires
+    slice-aggregate-put-three-2
+    mnemonics-requires
+    slice-aggregate-put-three-3
+    conditions-requires
+    slice-aggregate-put-three-4
+    put-three-requires
+    returns)
