@@ -6,4 +6,3 @@ pub mod Alike
 pub mod Bounds
 pub mod Lent
 pub mod Sized
-pub mod Accepted

@@ -5,7 +5,7 @@ use Prim.Native.Nat.{ℕ, zero, suc}
 use Rattle.record.specs.Asked.{orElse, answerOf, numberOf}
 use Rattle.record.specs.declared.header.Header.{Header}
 use Rattle.record.specs.declared.asked.Asked.{Asked}
-use Rattle.record.specs.declared.asked.Asked.the-variants.{Yes, No}
+use Rattle.record.specs.declared.asked.Asked.the-variants.{No}
 
 -- a stage has a number: it is the answer, whatever comes later
 pub stops : (n later : ℕ) (h : Header) → (n ≡ 0 → ⊥) → No n ≡ answerOf (orElse n later) h

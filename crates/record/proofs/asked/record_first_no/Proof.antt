@@ -1,10 +1,9 @@
 -- `record_first_no` meets its contract.
 -- The answer's number is that of its case.
-use mathlib.Core.Path.{_≡_, sym, ap, _∙_}
+use mathlib.Core.Path.{sym, ap, _∙_}
 use borrow.Author.Needs.{needs}
 use Rattle.record.specs.Asked.{numberOf}
 use Rattle.record.proofs.Stages.{number-is}
-use borrow.Author.Needs.{needs}
 use Rattle.record.proofs.asked.record_first_no.Statement.{statement}
 use Rattle.record.proofs.asked.record_first_no.Tie as tie
 
