@@ -12,7 +12,7 @@ use Rattle.tokens.specs.Token.{Token}
 use Rattle.tokens.specs.Sheet.{Sheet, sheet, ahead, firstPen, pushes}
 use Rattle.record.specs.declared.header.Header.{Header}
 use Rattle.record.specs.Header.{headerOf}
-use Rattle.operand.specs.Accepted.{accepted-rising}
+use Rattle.operand.proofs.Accepted.{accepted-rising}
 use Rattle.operand.specs.Tables.{Rising}
 use Rattle.operand.specs.Memory.{memTokens}
 use Rattle.operand.specs.Operand.{opTokens}

@@ -15,7 +15,7 @@ use Rattle.tokens.specs.Token.{Token}
 use Rattle.tokens.specs.Words.{words, wordToken}
 use Rattle.tokens.specs.Sheet.{Sheet, push, pushes}
 use Rattle.x86.specs.Conventions.{argumentRegisters, argumentRegister, argumentCount}
-use Rattle.x86.specs.Written.{up-to}
+use Rattle.x86.proofs.Written.{up-to}
 use Rattle.record.specs.declared.header.Header.{Header}
 use Rattle.record.specs.Layout.{bodiesOf}
 use Rattle.record.specs.Body.{bodyAt}

@@ -7,7 +7,7 @@ use Rattle.lists.specs.Choice.{pick}
 use Rattle.x86.specs.Mnemonics.{writesFlags}
 use Rattle.record.specs.Body.{bodyAt, mnemonicOf}
 use Rattle.expressions.specs.Condition.{flagWriter}
-use Rattle.record.specs.SearchLaws.{last-turn, last-over}
+use Rattle.record.proofs.SearchLaws.{last-turn, last-over}
 use Rattle.record.specs.declared.search.Found.the-variants.{At, Nothing}
 
 module _ (bodies : List ℕ) (first k : ℕ) where

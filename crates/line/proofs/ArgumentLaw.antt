@@ -15,7 +15,7 @@ use Rattle.lists.specs.Below.{below-at}
 use Rattle.tokens.specs.Token.{Token}
 use Rattle.x86.specs.Registers.{fullRegister, qword}
 use Rattle.x86.specs.Conventions.{microsoft, systemV, argumentRegisters, argumentCount, written, anyWritten, upToLast, withWritten}
-use Rattle.x86.specs.Written.{now-written, still-written, up-to}
+use Rattle.x86.proofs.Written.{now-written, still-written, up-to}
 use Rattle.record.specs.declared.header.Header.{Header}
 use Rattle.record.specs.Body.{operandCount, operandKind, operandRegister}
 use Rattle.structure.specs.Plan.{What, Line}

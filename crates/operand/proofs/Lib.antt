@@ -3,3 +3,4 @@ pub mod Integers
 pub mod Pushes
 pub mod Choices
 pub mod Printing
+pub mod Accepted

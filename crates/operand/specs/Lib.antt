@@ -6,4 +6,3 @@ pub mod Alike
 pub mod Bounds
 pub mod Tables
 pub mod Sized
-pub mod Accepted

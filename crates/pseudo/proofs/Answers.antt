@@ -20,7 +20,7 @@ use Rattle.line.specs.Lines.{lineIn}
 use Rattle.line.specs.Print.{maskAfter, printed}
 use Rattle.pseudo.specs.Listed.{lineAddress, lineMark}
 use Rattle.lists.specs.Every.{both-yes}
-use Rattle.record.specs.AskedLaws.{passed}
+use Rattle.record.proofs.AskedLaws.{passed}
 use Rattle.pseudo.specs.Called.{roomNo, roomsOf, sizesOf, over, Stands, Leaves, PlanListed}
 use Rattle.pseudo.specs.declared.rooms.Sizes.{Sizes}
 use Rattle.pseudo.specs.declared.rooms.Rooms.{Rooms}

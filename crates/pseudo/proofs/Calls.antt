@@ -19,7 +19,7 @@ use Rattle.structure.specs.Plan.{codeOf}
 use Rattle.structure.specs.Graph.{firstIn}
 use Rattle.structure.specs.Demand.{Shallow}
 use Rattle.structure.specs.Stored.{Stored}
-use Rattle.operand.specs.Accepted.{accepted-rising}
+use Rattle.operand.proofs.Accepted.{accepted-rising}
 use Rattle.operand.specs.Bounds.{AllBytes, i32-abs}
 use Rattle.operand.specs.Tables.{Rising}
 use Rattle.flow.specs.Rows.{blockRows}
@@ -31,7 +31,7 @@ use Rattle.flow.proofs.Bounds.{record-placed, record-few, record-shallow}
 use Rattle.line.specs.Bounds.{Fits, printed-fits}
 use Rattle.line.specs.Lines.{lineIn, lines-again}
 use Rattle.line.specs.Print.{printed}
-use Rattle.record.specs.AskedLaws.{yes-limits, yes-marks, yes-range}
+use Rattle.record.proofs.AskedLaws.{yes-limits, yes-marks, yes-range}
 use Rattle.tokens.specs.Listing.{listing}
 use Rattle.pseudo.specs.Listed.{lineAddress, recordLines}
 use Rattle.pseudo.specs.Marks.{Indented}

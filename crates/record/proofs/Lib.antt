@@ -1,1 +1,6 @@
 pub mod Stages
+pub mod Running
+pub mod AskedLaws
+pub mod SearchLaws
+pub mod Rising
+pub mod Halving

@@ -2,10 +2,10 @@
 -- By whether the stage before has a number.
 use mathlib.Core.Path.{_≡_, refl}
 use Prim.Native.Nat.{ℕ, zero, suc}
-use Rattle.record.specs.Asked.{orElse, answerOf}
+use Rattle.record.specs.Asked.{orElse, numberOf, answerOf}
 use Rattle.record.specs.declared.header.Header.{Header}
 use Rattle.record.specs.declared.asked.Asked.{Asked}
-use Rattle.record.specs.declared.asked.Asked.the-variants.{Yes, No}
+use Rattle.record.specs.declared.asked.Asked.the-variants.{No}
 
 -- a stage has a number: it is the answer, whatever comes later
 pub stops : (n later : ℕ) (h : Header) → (n ≡ 0 → ⊥) → No n ≡ answerOf (orElse n later) h
@@ -19,3 +19,8 @@ goes-on n later h p q = rw p q
 pub ends : (n : ℕ) (h : Header) → (n ≡ 0 → ⊥) → No n ≡ answerOf n h
 ends zero h p = absurd (p refl)
 ends (suc n) h p = refl
+
+-- an answer has its number
+pub number-is : (n : ℕ) (h : Header) → numberOf (answerOf n h) ≡ n
+number-is zero h = refl
+number-is (suc n) h = refl

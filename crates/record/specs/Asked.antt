@@ -75,6 +75,11 @@ firstNo s from to =
     (orElse (contentsNo (headerOf s) s)
     (rangeNo (headerOf s) from to)))
 
+-- the paper's number for each case of the answer: 0 where every question so far got a yes
+abbrev pub numberOf : Asked → ℕ
+numberOf (Yes h) = 0
+numberOf (No n) = n
+
 -- the answer with that number, and with the record's header where it is 0
 abbrev pub answerOf : ℕ → Header → Asked
 answerOf zero h = Yes h

@@ -6,6 +6,7 @@ use lib.ListN.{drop}
 use lib.Dec.{leb, eqb}
 use Rattle.lists.specs.Bytes.{u8At, u16At, u64At}
 use Rattle.lists.specs.Choice.{pick, allBelow}
+use Rattle.x86.specs.Mnemonics.{setcc, cmovcc}
 use Rattle.x86.specs.Registers.{registerExists}
 
 -- "I u64 addresses; I bodies of 92 bytes"
@@ -69,7 +70,7 @@ nameOf b = drop 68 b
 
 -- "Mnemonics 0 to 45; conditions 0 to 16, non-zero for setcc and cmovcc, zero for other mnemonics above 0"
 abbrev pub setsByCondition : ℕ → Bool
-setsByCondition m = eqb m 26 || eqb m 27
+setsByCondition m = eqb m setcc || eqb m cmovcc
 
 abbrev pub conditionOk : ℕ → ℕ → Bool
 conditionOk m c = leb m 45 && leb c 16 && (eqb m 0 || Bool·beq (setsByCondition m) (not (eqb c 0)))

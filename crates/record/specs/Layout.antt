@@ -1,6 +1,6 @@
--- Where each array of a record begins. "Then, in this order: B u64 block starts; B marks of u16 instruction count, u8 edge
--- count, u8 label wanted (0 or 1); E u64 targets; E u8 kinds; I u64 addresses; I bodies of 92 bytes; A u64 addresses;
--- A pairs of u8 kind and u8 length; S pairs of u64 first and last mapped address; T bytes: atlas texts in entry order."
+-- Where each array of a record begins, behind "Header, 24 bytes" and "in this order": "B u64 block starts; B marks of u16 instruction
+-- count, u8 edge count, u8 label wanted (0 or 1)", "E u64 targets; E u8 kinds", "I u64 addresses; I bodies of 92 bytes",
+-- "A u64 addresses; A pairs of u8 kind .. and u8 length", "S pairs of u64 first and last mapped address", "T bytes".
 use Prim.Native.Nat.{ℕ, _+_, _*_}
 use mathlib.Core.List.{List}
 use mathlib.Core.Bool.{Bool}

@@ -4,9 +4,4 @@ pub mod Blocks
 pub mod Body
 pub mod Atlas
 pub mod Asked
-pub mod Running
-pub mod AskedLaws
 pub mod Search
-pub mod SearchLaws
-pub mod Rising
-pub mod Halving

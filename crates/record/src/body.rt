@@ -7,9 +7,8 @@ use x86::registers::register_named;
 use x86::table::isa;
 ghost use mathlib.Core.Path.{_≡_};
 ghost use Prim.Native.Nat.{_-_, _*_, _<_};
-ghost use lib.ListN.{length};
 ghost use Rattle.x86.specs.Table.{isaBytes};
-ghost use Rattle.record.specs.Body.{addressAt, bodyAt, mnemonicOf, conditionOf, operandCount, skipMark, segmentOf, baseOf, indexOf, scaleOf, memorySize, memoryAddress, operandKind, registerByte, operandRegister, operandNumber, nameByte, nameGoesOn, conditionOk, scaleOk, operandOk, fixedOk, isName, isZeros, operandsOk, bodyOk, bodiesOk};
+ghost use Rattle.record.specs.Body.{addressAt, bodyAt, mnemonicOf, conditionOf, operandCount, skipMark, segmentOf, baseOf, indexOf, scaleOf, memorySize, memoryAddress, operandKind, registerByte, operandRegister, operandNumber, nameByte, conditionOk, scaleOk, operandOk, fixedOk, isName, isZeros, operandsOk, bodyOk, bodiesOk};
 
 pub fn address_at(addresses: &[u8], i: u16) -> u64
     ensures { λ r. ⌜ r ≡ addressAt (now (addresses .entry)) i ⌝ }

@@ -6,3 +6,4 @@ pub mod Columns
 pub mod Past
 pub mod Positions
 pub mod Joined
+pub mod Written

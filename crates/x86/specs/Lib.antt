@@ -7,4 +7,3 @@ pub mod FlagRule
 pub mod Sizes
 pub mod Table
 pub mod Conventions
-pub mod Written

@@ -1,7 +1,6 @@
 // Conditions by number, from the table. A relation is 0 ==, 1 !=, 2 <, 3 >=, 4 <=, 5 >, and 6 for none.
 ghost use mathlib.Core.Path.{_≡_};
-ghost use Rattle.x86.specs.Conditions.{relationAfterCmp, relationAfterTest, relationAfterOther, printsUnsigned};
-ghost use Rattle.x86.specs.Conditions.{negate as negated};
+ghost use Rattle.x86.specs.Conditions.{relationAfterCmp, relationAfterTest, relationAfterOther, printsUnsigned, negate as negated};
 ghost use Rattle.x86.specs.Table.{isaBytes};
 use super::table::column;
 

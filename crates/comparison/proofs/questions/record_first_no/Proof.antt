@@ -1,7 +1,8 @@
 -- `questions::record_first_no` meets its contract.
 -- The answer's number is that of its case.
 use mathlib.Core.Path.{sym, ap, _∙_}
-use Rattle.comparison.proofs.AnswerNumber.{numberOf, number-is}
+use Rattle.record.specs.Asked.{numberOf}
+use Rattle.record.proofs.Stages.{number-is}
 use borrow.Author.Needs.{needs}
 use Rattle.comparison.proofs.questions.record_first_no.Statement.{statement}
 use Rattle.comparison.proofs.questions.record_first_no.Tie as tie

@@ -7,7 +7,7 @@ use borrow.Author.Needs.{needs}
 use Rattle.flow.specs.Rows.{blockRow, blockRows}
 use Rattle.record.specs.Layout.{marksOf}
 use Rattle.record.specs.Blocks.{firstInstruction, firstEdge}
-use Rattle.record.specs.Running.{instruction-more, edge-more}
+use Rattle.record.proofs.Running.{instruction-more, edge-more}
 use Rattle.flow.proofs.Totals.{block-has, edges-fit}
 use Rattle.flow.proofs.Storing.{Left, left-all, left-length, left-step, left-done}
 use Rattle.flow.proofs.Row.{array, row-stored}

@@ -4,7 +4,7 @@ use mathlib.Core.Path.{_≡_, sym, ap, _∙_}
 use Prim.Native.Nat.{_≤_, _-_}
 use borrow.Author.Needs.{needs}
 use Rattle.record.specs.Search.{findFrom}
-use Rattle.record.specs.SearchLaws.{find-all, find-here, find-next, find-none}
+use Rattle.record.proofs.SearchLaws.{find-all, find-here, find-next, find-none}
 use Rattle.flow.specs.Rows.{placeFound}
 use Rattle.flow.proofs.rows.place_in.Statement.{statement}
 use Rattle.flow.proofs.rows.place_in.Tie as tie

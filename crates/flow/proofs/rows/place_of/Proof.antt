@@ -1,7 +1,7 @@
 -- `place_of` meets its contract.
 -- The starts are the part of the record at their offset.
 use mathlib.Core.Path.{sym, _∙_}
-use Rattle.record.specs.Rising.{starts-rise}
+use Rattle.record.proofs.Rising.{starts-rise}
 use Rattle.flow.specs.Rows.{placeOf}
 use borrow.Author.Needs.{needs}
 use Rattle.flow.proofs.rows.place_of.Statement.{statement}

@@ -1,9 +1,7 @@
 -- Question 9 of a record: `atlas_asked` meets its contract.
 -- Each array is the part that begins at its offset.
-use mathlib.Core.Path.{_≡_, sym}
 use borrow.Author.Needs.{needs}
 use Rattle.record.specs.Asked.{atlasAsked}
-use borrow.Author.Needs.{needs}
 use Rattle.record.proofs.asked.atlas_asked.Statement.{statement}
 use Rattle.record.proofs.asked.atlas_asked.Tie as tie
 

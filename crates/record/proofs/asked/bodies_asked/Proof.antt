@@ -1,9 +1,7 @@
 -- Question 8 of a record: `bodies_asked` meets its contract.
 -- The array is the part that begins at its offset.
-use mathlib.Core.Path.{_≡_, sym}
 use borrow.Author.Needs.{needs}
 use Rattle.record.specs.Asked.{bodiesAsked}
-use borrow.Author.Needs.{needs}
 use Rattle.record.proofs.asked.bodies_asked.Statement.{statement}
 use Rattle.record.proofs.asked.bodies_asked.Tie as tie
 

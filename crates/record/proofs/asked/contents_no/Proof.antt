@@ -1,9 +1,8 @@
 -- Questions 8 to 10: `contents_no` meets its contract.
 -- Each answer follows from the tests that led to it.
-use mathlib.Core.Path.{_≡_, sym}
+use mathlib.Core.Path.{sym}
 use borrow.Author.Needs.{needs}
 use Rattle.record.specs.Asked.{contentsNo}
-use borrow.Author.Needs.{needs}
 use Rattle.record.proofs.asked.contents_no.Statement.{statement}
 use Rattle.record.proofs.asked.contents_no.Tie as tie
 

@@ -1,9 +1,7 @@
 -- Question 7 of a record: `edge_kinds_asked` meets its contract.
 -- The array is the part that begins at its offset.
-use mathlib.Core.Path.{_≡_, sym}
 use borrow.Author.Needs.{needs}
 use Rattle.record.specs.Asked.{edgeKindsAsked}
-use borrow.Author.Needs.{needs}
 use Rattle.record.proofs.asked.edge_kinds_asked.Statement.{statement}
 use Rattle.record.proofs.asked.edge_kinds_asked.Tie as tie
 

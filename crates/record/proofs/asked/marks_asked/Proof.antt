@@ -1,9 +1,7 @@
 -- Question 5 of a record: `marks_asked` meets its contract.
 -- The array is the part that begins at its offset.
-use mathlib.Core.Path.{_≡_, sym}
 use borrow.Author.Needs.{needs}
 use Rattle.record.specs.Asked.{marksAsked}
-use borrow.Author.Needs.{needs}
 use Rattle.record.proofs.asked.marks_asked.Statement.{statement}
 use Rattle.record.proofs.asked.marks_asked.Tie as tie
 

@@ -1,9 +1,7 @@
 -- Question 11: `range_no` meets its contract.
 -- By its one test.
-use mathlib.Core.Path.{_≡_, sym}
 use borrow.Author.Needs.{needs}
 use Rattle.record.specs.Asked.{rangeNo}
-use borrow.Author.Needs.{needs}
 use Rattle.record.proofs.asked.range_no.Statement.{statement}
 use Rattle.record.proofs.asked.range_no.Tie as tie
 

@@ -1,12 +1,11 @@
 -- The questions in order: `record` meets its contract.
 -- Each stage passed has the number 0, and the first that has another gives the answer.
-use mathlib.Core.Path.{_≡_, sym}
+use mathlib.Core.Path.{sym}
 use denote.Ref.{now}
 use borrow.Author.Needs.{needs}
 use Rattle.record.specs.Header.{headerOf}
 use Rattle.record.specs.Asked.{orElse, blocksNo, contentsNo, rangeNo, firstNo}
 use Rattle.record.proofs.Stages.{stops, goes-on, ends}
-use borrow.Author.Needs.{needs}
 use Rattle.record.proofs.asked.record.Statement.{statement}
 use Rattle.record.proofs.asked.record.Tie as tie
 

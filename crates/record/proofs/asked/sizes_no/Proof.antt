@@ -1,10 +1,9 @@
 -- Questions 1 to 4: `sizes_no` meets its contract.
 -- Each answer follows from the tests that led to it.
-use mathlib.Core.Path.{_≡_, sym}
+use mathlib.Core.Path.{sym}
 use borrow.Author.Needs.{needs}
 use Rattle.record.specs.Asked.{sizesNo}
 use borrow.Author.Tests.{le-leb, lt-leb, eq-eqb, ne-eqb}
-use borrow.Author.Needs.{needs}
 use Rattle.record.proofs.asked.sizes_no.Statement.{statement}
 use Rattle.record.proofs.asked.sizes_no.Tie as tie
 

@@ -1,9 +1,7 @@
 -- Question 10 of a record: `spans_asked` meets its contract.
 -- The array is the part that begins at its offset.
-use mathlib.Core.Path.{_≡_, sym}
 use borrow.Author.Needs.{needs}
 use Rattle.record.specs.Asked.{spansAsked}
-use borrow.Author.Needs.{needs}
 use Rattle.record.proofs.asked.spans_asked.Statement.{statement}
 use Rattle.record.proofs.asked.spans_asked.Tie as tie
 

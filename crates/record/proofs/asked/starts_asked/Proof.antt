@@ -1,9 +1,7 @@
 -- Question 6 of a record: `starts_asked` meets its contract.
 -- The array is the part that begins at its offset.
-use mathlib.Core.Path.{_≡_, sym}
 use borrow.Author.Needs.{needs}
 use Rattle.record.specs.Asked.{startsAsked}
-use borrow.Author.Needs.{needs}
 use Rattle.record.proofs.asked.starts_asked.Statement.{statement}
 use Rattle.record.proofs.asked.starts_asked.Tie as tie
 

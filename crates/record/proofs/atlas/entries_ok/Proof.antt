@@ -2,13 +2,11 @@
 -- The invariant: so far addresses rise and kinds are right, or `ok` is false; `before` is the address of the entry before.
 use mathlib.Core.Path.{_≡_}
 use mathlib.Core.Bool.{_&&_}
-use Prim.Native.Nat.{ℕ, _+_, _*_, _≤_, _-_}
+use Prim.Native.Nat.{_+_, _≤_, _-_}
 use native.Mathlib.Omega.{arith}
 use borrow.Author.Needs.{needs}
-use lib.Dec.{leb}
-use Rattle.lists.specs.Bytes.{u8At}
-use Rattle.lists.specs.Choice.{allBelow, sumBelow}
-use Rattle.lists.specs.Below.{all-more, sum-more}
+use Rattle.lists.specs.Choice.{allBelow}
+use Rattle.lists.specs.Below.{all-more}
 use Rattle.record.specs.Atlas.{entryAddress, entryKind, entryKindOk, rises, entriesOk}
 use Rattle.record.proofs.atlas.entries_ok.Statement.{statement}
 use Rattle.record.proofs.atlas.entries_ok.Tie as tie

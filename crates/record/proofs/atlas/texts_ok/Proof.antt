@@ -1,13 +1,13 @@
 -- `texts_ok` meets its contract.
 -- The invariant: so far every text suits its kind, or `ok` is false; `at` is where the next text begins.
 use mathlib.Core.Path.{_≡_}
-use Prim.Native.Nat.{ℕ, _+_, _*_, _≤_, _-_}
+use Prim.Native.Nat.{_*_, _≤_, _-_}
 use native.Mathlib.Omega.{arith}
 use borrow.Author.Needs.{needs}
 use lib.ListN.{drop}
 use Rattle.lists.specs.Choice.{allBelow}
 use Rattle.lists.specs.Below.{all-more}
-use Rattle.record.specs.Running.{text-more}
+use Rattle.record.proofs.Running.{text-more}
 use Rattle.record.specs.Atlas.{entryKind, entryLength, textStart, textOk, textsOk}
 use Rattle.record.proofs.atlas.texts_ok.Statement.{statement}
 use Rattle.record.proofs.atlas.texts_ok.Tie as tie

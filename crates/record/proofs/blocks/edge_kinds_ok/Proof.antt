@@ -1,10 +1,10 @@
 -- Question 7: `edge_kinds_ok` meets its contract.
 -- The invariant: so far every kind is at most 4, or `ok` is false.
-use mathlib.Core.Path.{_≡_, sym}
-use Prim.Native.Nat.{ℕ, _≤_, _-_, _*_}
+use mathlib.Core.Path.{_≡_}
+use Prim.Native.Nat.{_≤_, _-_}
 use native.Mathlib.Omega.{arith}
 use borrow.Author.Needs.{needs}
-use lib.Dec.{leb, eqb}
+use lib.Dec.{leb}
 use Rattle.lists.specs.Choice.{allBelow}
 use Rattle.lists.specs.Below.{all-more}
 use Rattle.record.specs.Blocks.{edgeKindAt, edgeKindsOk}

@@ -1,10 +1,10 @@
 -- Question 5: `marks_ok` meets its contract.
 -- The invariant: the two sums, and whether every label mark so far is 0 or 1.
-use mathlib.Core.Path.{_≡_, sym}
-use Prim.Native.Nat.{ℕ, _≤_, _-_, _*_}
+use mathlib.Core.Path.{_≡_}
+use Prim.Native.Nat.{_≤_, _-_, _*_}
 use native.Mathlib.Omega.{arith}
 use borrow.Author.Needs.{needs}
-use lib.Dec.{leb, eqb}
+use lib.Dec.{leb}
 use Rattle.lists.specs.Choice.{allBelow, sumBelow}
 use Rattle.lists.specs.Below.{all-more, sum-more}
 use Rattle.record.specs.Blocks.{instructionsIn, edgesIn, labelMark, marksOk}

@@ -1,10 +1,10 @@
 -- Whether a block's start is new: `start_is_new` meets its contract.
 -- The invariant: every start so far differs from block k's.
 use mathlib.Core.Path.{_≡_, sym}
-use Prim.Native.Nat.{ℕ, _≤_, _-_, _*_}
+use Prim.Native.Nat.{_≤_, _-_}
 use native.Mathlib.Omega.{arith}
 use borrow.Author.Needs.{needs}
-use mathlib.Core.Bool.{true, false, not}
+use mathlib.Core.Bool.{true}
 use Rattle.lists.specs.Choice.{allBelow}
 use Rattle.lists.specs.Below.{all-goes-on, all-fails}
 use Rattle.record.specs.Blocks.{differ, startIsNew}

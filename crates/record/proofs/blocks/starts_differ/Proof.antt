@@ -9,7 +9,7 @@ use borrow.Author.Tests.{not-true, not-false}
 use Rattle.lists.specs.Choice.{allBelow}
 use Rattle.lists.specs.Below.{all-goes-on, all-fails}
 use Rattle.record.specs.Blocks.{startIsNew, startsDiffer}
-use Rattle.record.specs.Rising.{rising-differ}
+use Rattle.record.proofs.Rising.{rising-differ}
 use Rattle.record.proofs.blocks.starts_differ.Statement.{statement}
 use Rattle.record.proofs.blocks.starts_differ.Tie as tie
 

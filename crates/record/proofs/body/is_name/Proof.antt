@@ -1,8 +1,7 @@
 -- `is_name` meets its contract.
 -- The invariant: so far every byte goes on as a name does, or `ok` is false; `before` is the last of them.
 use mathlib.Core.Path.{_≡_}
-use mathlib.Core.Bool.{_&&_}
-use Prim.Native.Nat.{ℕ, _≤_, _-_}
+use Prim.Native.Nat.{_≤_, _-_}
 use native.Mathlib.Omega.{arith}
 use borrow.Author.Needs.{needs}
 use Rattle.lists.specs.Bytes.{u8At}

@@ -1,6 +1,6 @@
 -- `is_zeros` meets its contract.
 -- A number is zero where its two halves are; halved down to bytes, the three words are the 24 bytes.
-use mathlib.Core.Path.{_≡_, refl}
+use mathlib.Core.Path.{_≡_}
 use mathlib.Core.Bool.{_&&_, and-assoc, and-false, and-true}
 use mathlib.Core.List.{List}
 use Prim.Native.Nat.{ℕ, zero, suc, _+_, _*_, _≤_}

@@ -5,8 +5,8 @@ use mathlib.Core.Path.{sym, _∙_}
 use native.Mathlib.Omega.{arith}
 use borrow.Author.Needs.{needs}
 use Rattle.record.specs.Search.{numberAt}
-use Rattle.record.specs.SearchLaws.{find-nothing, find-first}
-use Rattle.record.specs.Halving.{Between, between-all, between-none, found-first, go-up, go-down}
+use Rattle.record.proofs.SearchLaws.{find-nothing, find-first}
+use Rattle.record.proofs.Halving.{Between, between-all, between-none, found-first, go-up, go-down}
 use Rattle.record.proofs.search.search.Statement.{statement}
 use Rattle.record.proofs.search.search.Tie as tie
 

@@ -9,7 +9,7 @@ use Rattle.record.specs.Search.{lastFrom}
 use Rattle.record.specs.declared.search.Found.the-variants.{At}
 use Rattle.structure.specs.Shape.{foundPlace, lastLoop}
 use Rattle.structure.proofs.Sourced.{search-behind}
-use Rattle.record.specs.SearchLaws.{last-turn, last-over}
+use Rattle.record.proofs.SearchLaws.{last-turn, last-over}
 use borrow.Author.Needs.{needs}
 use Rattle.structure.proofs.shape.last_loop.Statement.{statement}
 use Rattle.structure.proofs.shape.last_loop.Tie as tie

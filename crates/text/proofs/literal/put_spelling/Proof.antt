@@ -2,7 +2,7 @@
 -- One of seven fixed texts, or the code.
 use native.Mathlib.Omega.{arith}
 use Rattle.text.specs.Literal.{codeText}
-use Rattle.text.specs.LiteralLaws.{letter-none}
+use Rattle.text.proofs.LiteralLaws.{letter-none}
 use borrow.Author.Needs.{needs}
 use Rattle.text.proofs.literal.put_spelling.Statement.{statement}
 use Rattle.text.proofs.literal.put_spelling.Tie as tie

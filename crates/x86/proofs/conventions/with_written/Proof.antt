@@ -4,7 +4,7 @@ use Prim.Native.Nat.{_-_}
 use native.Mathlib.Omega.{arith}
 use borrow.Author.Tests.{lt-ltb, le-ltb, lt-leb, le-leb}
 use Rattle.x86.specs.Conventions.{withWritten}
-use Rattle.x86.specs.Written.{shifted}
+use Rattle.x86.proofs.Written.{shifted}
 use borrow.Author.Needs.{needs}
 use Rattle.x86.proofs.conventions.with_written.Statement.{statement}
 use Rattle.x86.proofs.conventions.with_written.Tie as tie

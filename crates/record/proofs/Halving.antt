@@ -5,7 +5,7 @@ use mathlib.Core.Path.{_≡_}
 use native.Mathlib.Decide.{ℕ-discrete, decLt}
 use native.Mathlib.Omega.{arith}
 use Rattle.record.specs.Search.{Rises}
-use Rattle.record.specs.Rising.{rise}
+use Rattle.record.proofs.Rising.{rise}
 
 -- the numbers below `low` are smaller than x, those from `high` on greater
 pub record Between (f : ℕ → ℕ) (n x low high : ℕ) : Type 0 where

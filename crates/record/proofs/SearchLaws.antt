@@ -1,5 +1,4 @@
--- The first number that is x: by what is known of all of them, and as a loop that goes from one to the next asks it; the last that
--- passes a test, as a loop that goes down asks it.
+-- The first number that is x, by what is known of all and as a loop asks it; the last that passes a test, as a loop that goes down asks it.
 -- Each is the definition at one number, or an induction over those that are left.
 use mathlib.Core.Path.{_≡_, refl, ap, _∙_}
 use mathlib.Core.Bool.{Bool}
@@ -12,7 +11,6 @@ use lib.Dec.{eqb}
 use borrow.Author.Tests.{eq-eqb, ne-eqb}
 use Rattle.lists.specs.Choice.{pick}
 use Rattle.record.specs.Search.{numberAt, findFrom, lastFrom}
-use Rattle.record.specs.declared.search.Found.{Found}
 use Rattle.record.specs.declared.search.Found.the-variants.{At, Nothing}
 
 module _ (numbers : List ℕ) (x : ℕ) where

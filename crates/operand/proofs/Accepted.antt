@@ -11,9 +11,9 @@ use Rattle.record.specs.Header.{headerOf}
 use Rattle.record.specs.Layout.{entriesOf, pairsOf}
 use Rattle.record.specs.Atlas.{entryAddress, entryKind, rises, entryKindOk, entriesOk, atlasOk}
 use Rattle.record.specs.Asked.{atlasAsked, firstNo}
-use Rattle.record.specs.AskedLaws.{yes-atlas}
+use Rattle.record.proofs.AskedLaws.{yes-atlas}
 use Rattle.record.specs.Search.{Rises}
-use Rattle.record.specs.Rising.{tested-rise}
+use Rattle.record.proofs.Rising.{tested-rise}
 use Rattle.operand.specs.Tables.{Rising}
 
 entries-rise : (entries pairs : List ℕ) (A : ℕ) → entriesOk entries pairs A ≡ true → Rises (entryAddress entries) A

@@ -1,5 +1,4 @@
--- A register that is written has its bit in the mask, and each other qword register has the bit that it had; registers are counted
--- up to the last one written.
+-- A register that is written has its bit in the mask, each other one the bit that it had; registers are counted up to the last written.
 -- Bit j of 2 ^ i is one exactly where i is j: a computed test over the sixteen registers.
 use mathlib.Core.Path.{_≡_, refl, ap, _∙_}
 use mathlib.Core.Bool.{Bool, true, false}
