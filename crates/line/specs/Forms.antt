@@ -8,7 +8,7 @@ use lib.ListN.{getD}
 use Rattle.lists.specs.Choice.{pick, anyBelow}
 use Rattle.tokens.specs.Token.{Token, punct, plainText, keyword, register}
 use Rattle.x86.specs.Mnemonics as mnemonic
-use Rattle.x86.specs.Registers.{fullRegister, registerSize}
+use Rattle.x86.specs.Registers.{qword, fullRegister, registerSize}
 use Rattle.record.specs.declared.header.Header.{Header}
 use Rattle.record.specs.Layout.{bodiesOf}
 use Rattle.record.specs.Body.{bodyAt, mnemonicOf, operandCount, operandKind, operandRegister, operandNumber, baseOf, memorySize}
@@ -150,7 +150,7 @@ unfoldable pub xchgForm : List ℕ → ℕ
 xchgForm b = pick (eqb (operandKind b 0) 1) 34 (pick (eqb (operandKind b 1) 1) 35 39)
 
 -- the forms that the mnemonic alone decides, by mnemonic: mov; lea xor and or add sub shl shr sar rol ror inc dec neg not; pop;
--- setcc cmovcc cmpxchg; rdtsc cpuid; ud2 hlt
+-- setcc cmovcc cmpxchg; rdtsc cpuid; ud2 hlt; from cmp on `__asm`
 abbrev pub plainForms : List ℕ
 plainForms = 39 ∷ 0 ∷ 39 ∷ 39 ∷ 39 ∷ 5 ∷ 12 ∷ 10 ∷ 11 ∷ 8 ∷ 9 ∷ 13 ∷ 14 ∷ 14 ∷ 15 ∷ 16 ∷ 17 ∷ 18 ∷ 19 ∷ 20 ∷ 39 ∷ 39 ∷ 23
     ∷ 39 ∷ 39 ∷ 39 ∷ 31 ∷ 32 ∷ 33 ∷ 39 ∷ 36 ∷ 37 ∷ 39 ∷ 39 ∷ 39 ∷ 39 ∷ 38 ∷ 38 ∷ []
@@ -186,10 +186,10 @@ insnForm value b =
     (pick (leb mnemonic.xor m && leb m mnemonic.or) (logicForm m b)
     (plainForm m)))))))
 
--- an instruction that leaves a value in the accumulator: its first operand is a part of rax (0x50), or it is a call
+-- an instruction that leaves a value in the accumulator: its first operand is a part of rax, or it is a call
 unfoldable pub leavesValue : List ℕ → Bool
 leavesValue b =
-    (ltb 0 (operandCount b) && eqb (operandKind b 0) 0 && eqb (fullRegister (operandRegister b 0)) 0x50)
+    (ltb 0 (operandCount b) && eqb (operandKind b 0) 0 && eqb (fullRegister (operandRegister b 0)) (qword 0))
     || eqb (mnemonicOf b) mnemonic.call
 
 -- instruction i - 1 - k is of the block whose first instruction is `first`, and leaves a value; the part given begins at the bodies

@@ -25,9 +25,10 @@ ghost use mathlib.Core.Bool.{false};
 ghost use mathlib.Core.List.{[], _∷_};
 ghost use mathlib.Core.Path.{_≡_};
 ghost use Prim.Native.Nat.{_≤_, _<_, _-_};
+ghost use Rattle.tokens.specs.Words.{wordBytes};
 ghost use Rattle.tokens.specs.Sheet.{sheet, pushes};
 ghost use Rattle.x86.specs.Table.{isaBytes};
-ghost use Rattle.operand.specs.Tables.{Tables};
+ghost use Rattle.operand.specs.Tables.{Rising, Tables};
 ghost use Rattle.expressions.specs.Condition.{bodyOf};
 ghost use Rattle.line.specs.Codes.{rowBytes, pieceOf};
 ghost use Rattle.line.specs.Forms.{rowOf};
@@ -151,14 +152,13 @@ fn push_named(
     kinds: &mut [u8],
     pen: Pen,
     words: &[u8],
-    isa: &[u8],
     rec: &[u8],
     h: Header,
     site: Site,
     body: &[u8],
     piece: u8,
 ) -> Pen
-    requires { ⌜ Tables (now words) (now isa) h (now rec) ⌝ }
+    requires { ⌜ (now words ≡ wordBytes) × Rising h (now rec) ⌝ }
     requires { ⌜ now body ≡ bodyOf h (now rec) (site .at) ⌝ }
     requires { ⌜ 142 ≤ piece ⌝ }
     requires { ⌜ piece < 145 ⌝ }
@@ -172,7 +172,6 @@ fn push_named(
             kinds,
             pen,
             words,
-            isa,
             rec,
             h,
             op_number(body, 0),
@@ -186,7 +185,6 @@ fn push_named(
             kinds,
             pen,
             words,
-            isa,
             rec,
             h,
             op_number(body, 0),
@@ -325,19 +323,7 @@ fn push_special(
         );
     }
     if piece < 145 {
-        return push_named(
-            text,
-            ends,
-            kinds,
-            pen,
-            words,
-            isa,
-            rec,
-            h,
-            site,
-            body,
-            piece,
-        );
+        return push_named(text, ends, kinds, pen, words, rec, h, site, body, piece);
     }
     push_late(
         text,

@@ -48,7 +48,7 @@ ghost use Rattle.tokens.specs.Words.{wordBytes, wordToken};
 ghost use Rattle.x86.specs.Table.{isaBytes};
 ghost use Rattle.operand.specs.Expr.{wrap};
 ghost use Rattle.operand.specs.Memory.{registerToken, number, typeWord, prefixWord, segmentWord, segmentRead, global, slotToken, addressOf, scaled, registers, addressExpr, address, isSegmentRead, isGlobal, memTokens};
-ghost use Rattle.operand.specs.Tables.{Tables};
+ghost use Rattle.operand.specs.Tables.{Rising, Tables};
 
 // A register.
 pub fn push_register(
@@ -140,13 +140,12 @@ fn push_global(
     kinds: &mut [u8],
     pen: Pen,
     words: &[u8],
-    isa: &[u8],
     rec: &[u8],
     h: Header,
     body: &[u8],
     deref: bool,
 ) -> Pen
-    requires { ⌜ Tables (now words) (now isa) h (now rec) ⌝ }
+    requires { ⌜ (now words ≡ wordBytes) × Rising h (now rec) ⌝ }
     ensures { λ r. ⌜ sheet (now (text .exit)) (now (ends .exit)) (now (kinds .exit)) r
         ≡ pushes (sheet (now (text .entry)) (now (ends .entry)) (now (kinds .entry)) pen) (global h (now (rec .entry)) deref (now (body .entry))) ⌝ }
 {
@@ -437,7 +436,7 @@ pub fn mem(
         return push_segment(text, ends, kinds, pen, words, body);
     }
     if is_global(body) {
-        return push_global(text, ends, kinds, pen, words, isa, rec, h, body, deref);
+        return push_global(text, ends, kinds, pen, words, rec, h, body, deref);
     }
     if is_slot(h, body) {
         return push_slot(text, ends, kinds, pen, words, h, body, deref);

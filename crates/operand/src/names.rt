@@ -22,7 +22,7 @@ ghost use mathlib.Core.Path.{_≡_};
 ghost use Rattle.tokens.specs.Sheet.{sheet, push, pushes};
 ghost use Rattle.tokens.specs.Words.{wordBytes};
 ghost use Rattle.operand.specs.Names.{entryAt, entryToken, nameOrAt, nameOr, literalAt, inSpan};
-ghost use Rattle.operand.specs.Tables.{Rising, Tables};
+ghost use Rattle.operand.specs.Tables.{Rising};
 
 // The entry at an address.
 pub fn entry_at(rec: &[u8], h: Header, va: u64) -> Found
@@ -98,13 +98,12 @@ pub fn name_or(
     kinds: &mut [u8],
     pen: Pen,
     words: &[u8],
-    isa: &[u8],
     rec: &[u8],
     h: Header,
     va: u64,
     w: u8,
 ) -> Pen
-    requires { ⌜ Tables (now words) (now isa) h (now rec) ⌝ }
+    requires { ⌜ (now words ≡ wordBytes) × Rising h (now rec) ⌝ }
     ensures { λ r. ⌜ sheet (now (text .exit)) (now (ends .exit)) (now (kinds .exit)) r
         ≡ pushes (sheet (now (text .entry)) (now (ends .entry)) (now (kinds .entry)) pen) (nameOr h (now (rec .entry)) va w ∷ []) ⌝ }
 {

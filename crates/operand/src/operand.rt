@@ -20,10 +20,11 @@ ghost use lib.Dec.{leb};
 ghost use mathlib.Core.Bool.{_&&_};
 ghost use mathlib.Core.List.{[], _∷_};
 ghost use mathlib.Core.Path.{_≡_};
+ghost use Rattle.tokens.specs.Words.{wordBytes};
 ghost use Rattle.tokens.specs.Sheet.{sheet, pushes};
 ghost use Rattle.operand.specs.Names.{inSpan};
 ghost use Rattle.operand.specs.Operand.{immediateNumber, immediate, opTokens};
-ghost use Rattle.operand.specs.Tables.{Tables};
+ghost use Rattle.operand.specs.Tables.{Rising, Tables};
 
 // Whether an immediate is an address in a span.
 fn is_address(rec: &[u8], h: Header, v: u64) -> bool
@@ -61,18 +62,17 @@ pub fn immediate(
     kinds: &mut [u8],
     pen: Pen,
     words: &[u8],
-    isa: &[u8],
     rec: &[u8],
     h: Header,
     kind: u8,
     v: u64,
 ) -> Pen
-    requires { ⌜ Tables (now words) (now isa) h (now rec) ⌝ }
+    requires { ⌜ (now words ≡ wordBytes) × Rising h (now rec) ⌝ }
     ensures { λ r. ⌜ sheet (now (text .exit)) (now (ends .exit)) (now (kinds .exit)) r
         ≡ pushes (sheet (now (text .entry)) (now (ends .entry)) (now (kinds .entry)) pen) (immediate h (now (rec .entry)) kind v ∷ []) ⌝ }
 {
     if is_address(rec, h, v) {
-        return name_or(text, ends, kinds, pen, words, isa, rec, h, v, OFF);
+        return name_or(text, ends, kinds, pen, words, rec, h, v, OFF);
     }
     push_immediate(text, ends, kinds, pen, kind, v)
 }
@@ -108,7 +108,6 @@ pub fn op(
             kinds,
             pen,
             words,
-            isa,
             rec,
             h,
             op_number(body, i),
@@ -122,7 +121,6 @@ pub fn op(
             kinds,
             pen,
             words,
-            isa,
             rec,
             h,
             kind,

@@ -54,7 +54,7 @@ returns-3 : tie.Need-returns-3
 returns-3 c = (c .before .before .before .before .before .before .arguments .ensures) ∙ ap (pushes _) (is-arguments (c .before .before .before .before .before .before .before .before .before .before .before .before .before .before .before .before .before .before .before .before .args .h) (c .before .before .before .before .before .before .before .before .before .before .before .before .before .before .before .before .before .before .before .before .args .rec .now) (c .before .before .before .before .before .before .before .before .before .before .before .before .before .before .before .before .before .before .before .before .args .site) (c .before .before .before .before .before .before .before .before .before .before .before .before .before .before .before .before .before .before .before .before .args .piece) (c .before .before .before .before .before .before .before .before .before .before .if3 .taken))
 
 push-named-requires : tie.Need-push-named-requires
-push-named-requires c κs = ((c .before .before .before .before .before .before .before .before .before .before .before .before .before .before .pre .0), ((c .before .before .before .before .before .before .before .before .before .before .before .before .before .before .pre .1 .0), (omega (arith, (c .before .before .before .before .before .if2 .left), (c .before .before .before .before .if3 .left)), (c .before .before .before .if4 .taken))))
+push-named-requires c κs = ((c .before .before .before .before .before .before .before .before .before .before .before .before .before .before .pre .0 .words-are, c .before .before .before .before .before .before .before .before .before .before .before .before .before .before .pre .0 .rising), ((c .before .before .before .before .before .before .before .before .before .before .before .before .before .before .pre .1 .0), (omega (arith, (c .before .before .before .before .before .if2 .left), (c .before .before .before .before .if3 .left)), (c .before .before .before .if4 .taken))))
 
 same-length-10 : tie.Need-same-length-10
 same-length-10 c = search needs

@@ -24,7 +24,7 @@ same-length-3 c = search needs
 
 returns : tie.Need-returns
 returns c =
-    c .before .before .before .before .before .before .name-or .ensures ∙ ap (pushes _) (in-span (c .before .before .before .before .before .before .before .before .before .before .before .before .before .before .before .before .before .before .args .h) (c .before .before .before .before .before .before .before .before .before .before .before .before .before .before .before .before .before .before .args .rec .now) (c .before .before .before .before .before .before .before .before .before .before .before .before .before .before .before .before .before .before .args .kind) (c .before .before .before .before .before .before .before .before .before .before .before .before .before .before .before .before .before .before .args .v) (made _ _ _ (c .before .before .before .before .before .before .before .before .before .before .before .is-address .ensures) (c .before .before .before .before .before .before .before .before .before .before .if1 .taken)))
+    c .before .before .before .before .before .before .name-or .ensures ∙ ap (pushes _) (in-span (c .before .before .before .before .before .before .before .before .before .before .before .before .before .before .before .before .before .args .h) (c .before .before .before .before .before .before .before .before .before .before .before .before .before .before .before .before .before .args .rec .now) (c .before .before .before .before .before .before .before .before .before .before .before .before .before .before .before .before .before .args .kind) (c .before .before .before .before .before .before .before .before .before .before .before .before .before .before .before .before .before .args .v) (made _ _ _ (c .before .before .before .before .before .before .before .before .before .before .before .is-address .ensures) (c .before .before .before .before .before .before .before .before .before .before .if1 .taken)))
 
 push-immediate-requires : tie.Need-push-immediate-requires
 push-immediate-requires c κs = search needs
@@ -40,7 +40,7 @@ same-length-6 c = search needs
 
 returns-2 : tie.Need-returns-2
 returns-2 c =
-    c .before .before .before .before .before .before .push-immediate .ensures ∙ ap (pushes _) (not-in-span (c .before .before .before .before .before .before .before .before .before .before .before .before .before .before .before .before .before .before .args .h) (c .before .before .before .before .before .before .before .before .before .before .before .before .before .before .before .before .before .before .args .rec .now) (c .before .before .before .before .before .before .before .before .before .before .before .before .before .before .before .before .before .before .args .kind) (c .before .before .before .before .before .before .before .before .before .before .before .before .before .before .before .before .before .before .args .v) (made _ _ _ (c .before .before .before .before .before .before .before .before .before .before .before .is-address .ensures) (c .before .before .before .before .before .before .before .before .before .before .if1 .left)))
+    c .before .before .before .before .before .before .push-immediate .ensures ∙ ap (pushes _) (not-in-span (c .before .before .before .before .before .before .before .before .before .before .before .before .before .before .before .before .before .args .h) (c .before .before .before .before .before .before .before .before .before .before .before .before .before .before .before .before .before .args .rec .now) (c .before .before .before .before .before .before .before .before .before .before .before .before .before .before .before .before .before .args .kind) (c .before .before .before .before .before .before .before .before .before .before .before .before .before .before .before .before .before .args .v) (made _ _ _ (c .before .before .before .before .before .before .before .before .before .before .before .is-address .ensures) (c .before .before .before .before .before .before .before .before .before .before .if1 .left)))
 
 pub immediate-spec : {M : Type 1} → statement M
 immediate-spec =
