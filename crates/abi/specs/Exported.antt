@@ -8,7 +8,7 @@ use Rattle.pseudo.specs.Called.{answerFor, numberOf, roomsOf, sizes, callNo, Ca
 use Rattle.pseudo.specs.declared.call.Answer.{Answer}
 use Rattle.pseudo.specs.declared.call.Answer.the-variants.{Listed, No}
 
--- "with a number all sizes are zero"
+-- "A number comes with all sizes zero"
 abbrev pub sizeList : Answer → List ℕ
 sizeList (Listed z) = z .text ∷ z .tokens ∷ z .lines ∷ []
 sizeList (No n) = 0 ∷ 0 ∷ 0 ∷ []

@@ -13,8 +13,8 @@ use Rattle.x86.specs.Registers.{fullRegister}
 use Rattle.x86.specs.Conventions.{argumentRegisters}
 use Rattle.record.specs.declared.header.Header.{Header}
 use Rattle.record.specs.Body.{mnemonicOf, operandCount, operandKind, operandRegister}
-use Rattle.structure.specs.Plan.{What, Line}
-use Rattle.structure.specs.Plan.What.{label-line, do-line, open-line, if-goto, while-line, close-line, goto-line, tail-call, insn-line}
+use Rattle.structure.specs.Plan.{What, Line, is}
+use Rattle.structure.specs.Plan.What.{insn-line}
 use Rattle.expressions.specs.Condition.{bodyOf}
 use Rattle.expressions.specs.Arguments.{listed, argumentTokens}
 use Rattle.line.specs.Print.{lineTokens, maskAfter, printed}
@@ -54,15 +54,7 @@ pub record Prefix (convention : ℕ) (bs : List (List ℕ)) (ts : List Token) : 
 
 module _ (h : Header) (s : List ℕ) where
   abbrev pub shownAs : What → ℕ → List (List ℕ)
-  shownAs insn-line i = bodyOf h s i ∷ []
-  shownAs label-line i = []
-  shownAs do-line i = []
-  shownAs open-line i = []
-  shownAs if-goto i = []
-  shownAs while-line i = []
-  shownAs close-line i = []
-  shownAs goto-line i = []
-  shownAs tail-call i = []
+  shownAs w i = pick (is w insn-line) (bodyOf h s i ∷ []) []
 
   -- the instructions whose own lines these are: none is silent, and the branches and tests of the flow are left out
   abbrev pub shown : List Line → List (List ℕ)

@@ -18,8 +18,8 @@ use Rattle.record.specs.Body.{mnemonicOf, conditionOf, operandCount, operandNum
 use Rattle.operand.specs.Memory.{number, memTokens}
 use Rattle.operand.specs.Names.{nameOr}
 use Rattle.operand.specs.Operand.{opTokens}
-use Rattle.structure.specs.Plan.{What, Line}
-use Rattle.structure.specs.Plan.What.{label-line, do-line, open-line, if-goto, while-line, close-line, goto-line, tail-call, insn-line}
+use Rattle.structure.specs.Plan.{What, Line, is}
+use Rattle.structure.specs.Plan.What.{insn-line}
 use Rattle.structure.specs.Graph.{firstIn}
 use Rattle.flow.specs.Rows.{blockRows}
 use Rattle.expressions.specs.Condition.{bodyOf, conditionTokens}
@@ -89,15 +89,7 @@ module _ (h : Header) (s : List ℕ) where
 
   -- only an instruction's own line changes the registers written
   abbrev pub maskAfter : ℕ → What → ℕ → ℕ
-  maskAfter mask insn-line i = writtenAfter mask (bodyOf h s i)
-  maskAfter mask label-line i = mask
-  maskAfter mask do-line i = mask
-  maskAfter mask open-line i = mask
-  maskAfter mask if-goto i = mask
-  maskAfter mask while-line i = mask
-  maskAfter mask close-line i = mask
-  maskAfter mask goto-line i = mask
-  maskAfter mask tail-call i = mask
+  maskAfter mask w i = pick (is w insn-line) (writtenAfter mask (bodyOf h s i)) mask
 
   -- the lines of a plan, from the registers written on
   unfoldable pub printed : ℕ → ℕ → List Line → List (List Token)

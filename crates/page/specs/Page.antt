@@ -39,7 +39,7 @@ refusal n = numbered (ascii "no ") n
 unfoldable pub addressText : ℕ → ℕ → List ℕ
 addressText mark address = pick (ltb mark 256) (replicate 16 45) (replicate (16 - length (hexText true address)) 48 ++ hexText true address)
 
--- "then address, a space, two spaces per indent, the text": the indent stands below 256 in a mark; 32 is a space
+-- "then address (sixteen upper hex digits, or dashes if none), a space, two spaces per indent, the text": the indent stands below 256 in a mark; 32 is a space
 unfoldable pub lineOf : ℕ → ℕ → List ℕ → List ℕ
 lineOf mark address text = addressText mark address ++ ascii " " ++ replicate (2 * (mark % 256)) 32 ++ text ++ lf
 

@@ -3,29 +3,21 @@ use Prim.Native.Nat.{ℕ, _+_, _-_, _*_, _≤_}
 use mathlib.Core.List.{List, [], _∷_, map}
 use mathlib.Core.Path.{_≡_}
 use lib.ListN.{length}
+use Rattle.lists.specs.Choice.{pick}
 use Rattle.record.specs.declared.header.Header.{Header}
 use Rattle.record.specs.Header.{headerOf}
 use Rattle.record.specs.Layout.{startsOf, targetsOf, addressesOf}
 use Rattle.record.specs.Body.{addressAt}
 use Rattle.structure.specs.Plan.{What, Line}
-use Rattle.structure.specs.Plan.What.{label-line, do-line, open-line, if-goto, while-line, close-line, goto-line, tail-call, insn-line}
 use Rattle.structure.specs.Tree.{treeOf}
-use Rattle.structure.specs.Demand.{Nested, Shallow, contexts, unsilencedIn, instructionsFrom}
+use Rattle.structure.specs.Demand.{isLeftOut, Nested, Shallow, contexts, unsilencedIn, instructionsFrom}
 use Rattle.flow.specs.Rows.{blockRows, edgeRows, shownRows}
 use Rattle.flow.specs.Planned.{recordPlan}
 use Rattle.pseudo.specs.Listed.{lineAddress, recordAddresses}
 
 -- "leave out the listing's labels, do-lines and lone closing braces": the address a of a line that stays, in front of those of the others
 abbrev pub stay : What → ℕ → List ℕ → List ℕ
-stay label-line a r = r
-stay do-line a r = r
-stay close-line a r = r
-stay open-line a r = a ∷ r
-stay if-goto a r = a ∷ r
-stay while-line a r = a ∷ r
-stay goto-line a r = a ∷ r
-stay tail-call a r = a ∷ r
-stay insn-line a r = a ∷ r
+stay w a r = pick (isLeftOut w) r (a ∷ r)
 
 -- "the addresses of the lines that stay, one a line"
 unfoldable pub staying : Header → List ℕ → List Line → List ℕ

@@ -1,6 +1,8 @@
 -- The listing of a range of a record's blocks: six lists.
 use Prim.Native.Nat.{ℕ, _+_}
+use mathlib.Core.Bool.{_||_}
 use mathlib.Core.List.{List, map}
+use Rattle.lists.specs.Choice.{pick}
 use Rattle.tokens.specs.Token.{Token}
 use Rattle.tokens.specs.Listing.{Listing, listing}
 use Rattle.record.specs.declared.header.Header.{Header}
@@ -8,8 +10,8 @@ use Rattle.record.specs.Layout.{startsOf, addressesOf}
 use Rattle.record.specs.Blocks.{startAt}
 use Rattle.record.specs.Body.{addressAt}
 use Rattle.structure.specs.Graph.{firstIn}
-use Rattle.structure.specs.Plan.{What, Line}
-use Rattle.structure.specs.Plan.What.{label-line, do-line, open-line, if-goto, while-line, close-line, goto-line, tail-call, insn-line}
+use Rattle.structure.specs.Plan.{What, Line, is}
+use Rattle.structure.specs.Plan.What.{label-line, do-line, close-line}
 use Rattle.flow.specs.Rows.{blockRows}
 use Rattle.flow.specs.Planned.{recordPlan}
 use Rattle.line.specs.Print.{printed}
@@ -17,30 +19,15 @@ use Rattle.line.specs.Print.{printed}
 -- "line addresses (u64, 0 if none)": a label's and a do-line's is its block's start, a lone brace has none, every other line has
 -- its instruction's
 abbrev pub addressFor : Header → List ℕ → What → ℕ → ℕ → ℕ
-addressFor h s label-line k i = startAt (startsOf h s) k
-addressFor h s do-line k i = startAt (startsOf h s) k
-addressFor h s close-line k i = 0
-addressFor h s open-line k i = addressAt (addressesOf h s) i
-addressFor h s if-goto k i = addressAt (addressesOf h s) i
-addressFor h s while-line k i = addressAt (addressesOf h s) i
-addressFor h s goto-line k i = addressAt (addressesOf h s) i
-addressFor h s tail-call k i = addressAt (addressesOf h s) i
-addressFor h s insn-line k i = addressAt (addressesOf h s) i
+addressFor h s w k i =
+    pick (is w close-line) 0 (pick (is w label-line || is w do-line) (startAt (startsOf h s) k) (addressAt (addressesOf h s) i))
 
 abbrev pub lineAddress : Header → List ℕ → Line → ℕ
 lineAddress h s l = addressFor h s (l .what) (l .place) (l .at)
 
 -- "u16 marks (indent, plus 256 if addressed)"
 abbrev pub markFor : What → ℕ → ℕ
-markFor close-line d = d
-markFor label-line d = d + 256
-markFor do-line d = d + 256
-markFor open-line d = d + 256
-markFor if-goto d = d + 256
-markFor while-line d = d + 256
-markFor goto-line d = d + 256
-markFor tail-call d = d + 256
-markFor insn-line d = d + 256
+markFor w d = pick (is w close-line) d (d + 256)
 
 abbrev pub lineMark : Line → ℕ
 lineMark l = markFor (l .what) (l .indent)

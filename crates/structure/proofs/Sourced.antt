@@ -165,9 +165,6 @@ last-some p from (suc n) d k z e = go (p (from + n)) refl e (last-some p from n 
     go true t e ih = let s : k ≡ from + n = omega arith in (omega arith, rw s t)
     go false t e ih = (omega (arith, ih e .0), ih e .1)
 
-pub any-from-zero : (q : ℕ → Bool) (n : ℕ) → anyBelow (λ m. q (0 + m)) (n - 0) ≡ anyBelow q n
-any-from-zero q n = any-part q 0 n n (omega arith) (λ k lt b. absurd (omega arith)) (λ k le b. absurd (omega arith))
-
 module _ (blocks edges : List ℕ) where
   pub ends-are : (from to : ℕ) (l l′ : List ℕ) → Entries (λ t. lastSource (isSource blocks edges true t) from (to - from)) l l′ → Ends blocks edges from to l′
   ends-are from to l l′ a = record {

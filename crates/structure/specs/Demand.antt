@@ -1,7 +1,7 @@
 -- Demand 3, of the plan of a range: which instructions have a line, how braces nest, how many lines there are, how deep they stand.
 use Prim.Native.Nat.{ℕ, zero, suc, _+_, _-_, _*_, _≤_, _<_}
 use mathlib.Core.List.{List, [], _∷_, _++_}
-use mathlib.Core.Bool.{Bool, true, false, not}
+use mathlib.Core.Bool.{Bool, true, false, not, _||_}
 use mathlib.Core.Path.{_≡_}
 use lib.Dec.{eqb}
 use lib.ListN.{length, replicate}
@@ -9,7 +9,7 @@ use Rattle.lists.specs.Choice.{pick, sumBelow}
 use Rattle.structure.specs.Graph.{firstIn, countIn, endsInBranch, endsInJmp, lastIn, isShown}
 use Rattle.structure.specs.Tree.{Tree, treeOf}
 use Rattle.structure.specs.Tree.Tree.{over, plain, region, loop}
-use Rattle.structure.specs.Plan.{What, Line, goesNext, planOf}
+use Rattle.structure.specs.Plan.{What, Line, is, goesNext, planOf}
 use Rattle.structure.specs.Plan.What.{label-line, do-line, open-line, if-goto, while-line, close-line, goto-line, tail-call, insn-line}
 
 -- Where the regions put a block: in a range being written that ends at a place, in a do-body, or last in a do-body.
@@ -50,16 +50,11 @@ module _ (blocks shown : List ℕ) where
   unsilencedIn k (c ∷ cs) = unsilenced c k (firstIn blocks k) (countIn blocks k) ++ unsilencedIn (suc k) cs
 
 -- "leave out the listing's labels, do-lines and lone closing braces": the instructions of the other lines, in order.
+abbrev pub isLeftOut : What → Bool
+isLeftOut w = is w label-line || is w do-line || is w close-line
+
 abbrev pub count : What → ℕ → List ℕ → List ℕ
-count label-line i r = r
-count do-line i r = r
-count close-line i r = r
-count open-line i r = i ∷ r
-count if-goto i r = i ∷ r
-count while-line i r = i ∷ r
-count goto-line i r = i ∷ r
-count tail-call i r = i ∷ r
-count insn-line i r = i ∷ r
+count w i r = pick (isLeftOut w) r (i ∷ r)
 
 unfoldable pub counted : List Line → List ℕ
 counted [] = []

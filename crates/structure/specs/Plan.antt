@@ -42,6 +42,10 @@ whatNumber goto-line = 6
 whatNumber tail-call = 7
 whatNumber insn-line = 8
 
+-- two lines are written for the same
+abbrev pub is : What → What → Bool
+is w v = eqb (whatNumber w) (whatNumber v)
+
 -- a line as the plan's list holds it
 abbrev pub codeOf : Line → ℕ
 codeOf l = whatNumber (l .what) + 16 * (l .at + 65536 * (l .place + 65536 * l .indent))

@@ -3,9 +3,9 @@
 use mathlib.Core.Path.{_≡_, ap, _∙_}
 use Prim.Native.Nat.{ℕ, _+_, _-_, _≤_}
 use Rattle.structure.specs.Plan.{shownLines}
-use Rattle.structure.specs.Codes.{codes, codes}
-use Rattle.structure.proofs.Parts.{shown-turn, shown-over, shown-turn}
-use Rattle.structure.proofs.Storing.{Left, left-all, left-step, left-done, left-part, left-length, Left, left-all, left-step, left-done, left-part}
+use Rattle.structure.specs.Codes.{codes}
+use Rattle.structure.proofs.Parts.{shown-turn, shown-over}
+use Rattle.structure.proofs.Storing.{Left, left-all, left-step, left-done, left-part, left-length}
 use borrow.Author.Needs.{needs}
 use native.Mathlib.Omega.{arith}
 use Rattle.structure.proofs.lines.shown_lines.Statement.{statement}

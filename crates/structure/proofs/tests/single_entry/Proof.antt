@@ -7,7 +7,8 @@ use lib.ListN.{length}
 use borrow.Author.Tests.{leb-true}
 use Rattle.structure.specs.Graph.{outside, enters, hasEdge, singleEntry}
 use Rattle.lists.specs.Every.{both-yes}
-use Rattle.structure.proofs.Sourced.{exposed-is, any-from-zero}
+use Rattle.structure.proofs.Sourced.{exposed-is}
+use Rattle.lists.specs.Below.{any-from-zero}
 use borrow.Author.Needs.{needs}
 use Rattle.structure.proofs.tests.single_entry.Statement.{statement}
 use Rattle.structure.proofs.tests.single_entry.Tie as tie
