@@ -4,11 +4,13 @@ use crate::silent::is_silent_itself;
 use lists::reads::from;
 use lists::stores::store;
 use lists::stores::store_u16;
+use record::blocks::Address;
 use record::blocks::Place;
 use record::blocks::edge_kind_at;
 use record::blocks::edges_in;
 use record::blocks::instructions_in;
 use record::blocks::label_mark;
+use record::blocks::same_address;
 use record::blocks::start_at;
 use record::blocks::starts_rise;
 use record::blocks::target_at;
@@ -38,27 +40,27 @@ ghost use Rattle.flow.specs.Rows.{placeFound, placeOf, blockRows, edgeRo
 ghost use Rattle.flow.specs.Counted.{Counted, BlockHas, rowEnding};
 
 // The place that a search found, or 65535.
-fn place_found(found: Found) -> u16
-    ensures { λ r. ⌜ r ≡ placeFound found ⌝ }
+fn place_found(found: Found) -> Place
+    ensures { λ r. ⌜ r .0 ≡ placeFound found ⌝ }
 {
     match found {
-        Found::At(k) => k,
-        Found::Nothing => 65535,
+        Found::At(k) => Place(k),
+        Found::Nothing => Place(65535),
     }
 }
 
 // Of the blocks that start at an address the first, one after the other.
-fn place_in(starts: &[u8], blocks: u16, va: u64) -> u16
-    ensures { λ r. ⌜ r ≡ placeFound (findFrom (now (starts .entry)) va 0 blocks) ⌝ }
+fn place_in(starts: &[u8], blocks: u16, va: Address) -> Place
+    ensures { λ r. ⌜ r .0 ≡ placeFound (findFrom (now (starts .entry)) (va .0) 0 blocks) ⌝ }
 {
     let mut place: u16 = 0;
     while place < blocks {
-        if start_at(starts, Place(place)).0 == va {
-            return place;
+        if same_address(start_at(starts, Place(place)), va) {
+            return Place(place);
         }
         place += 1;
     }
-    65535
+    Place(65535)
 }
 
 // Whether a record's block starts rise: asked once for all its places.
@@ -69,13 +71,13 @@ fn rises_in(rec: &[u8], h: Header) -> bool
 }
 
 // The place of the block that starts at an address; `rises` tells whether it can be found by halving.
-pub fn place_of(rec: &[u8], h: Header, rises: bool, va: u64) -> u16
+pub fn place_of(rec: &[u8], h: Header, rises: bool, va: Address) -> Place
     requires { ⌜ rises ≡ startsRise (startsOf h (now rec)) (h .blocks) ⌝ }
-    ensures { λ r. ⌜ r ≡ placeOf h (now (rec .entry)) va ⌝ }
+    ensures { λ r. ⌜ r .0 ≡ placeOf h (now (rec .entry)) (va .0) ⌝ }
 {
     let starts = from(rec, 24);
     if rises {
-        return place_found(search(starts, h.blocks, va));
+        return place_found(search(starts, h.blocks, va.0));
     }
     place_in(starts, h.blocks, va)
 }
@@ -119,14 +121,14 @@ fn ending_in(last: &[u8], n: u16) -> u8
 }
 
 // The place of a closing branch's target.
-fn branch_in(rec: &[u8], h: Header, rises: bool, last: &[u8], ending: u8) -> u16
+fn branch_in(rec: &[u8], h: Header, rises: bool, last: &[u8], ending: u8) -> Place
     requires { ⌜ rises ≡ startsRise (startsOf h (now rec)) (h .blocks) ⌝ }
-    ensures { λ r. ⌜ r ≡ pick (leb 2 ending) (placeOf h (now (rec .entry)) (operandNumber (now (last .entry)) 0)) 65535 ⌝ }
+    ensures { λ r. ⌜ r .0 ≡ pick (leb 2 ending) (placeOf h (now (rec .entry)) (operandNumber (now (last .entry)) 0)) 65535 ⌝ }
 {
     if 2 <= ending {
-        return place_of(rec, h, rises, op_number(last, 0));
+        return place_of(rec, h, rises, Address(op_number(last, 0)));
     }
-    65535
+    Place(65535)
 }
 
 // The last four numbers of block k's row; its n instructions begin at the first.
@@ -138,7 +140,14 @@ fn put_ending(rec: &[u8], h: Header, rises: bool, k: u16, first: u16, n: u16, ou
     let last = body_at(from(rec, bodies_at(h)), last_at(first, n));
     let ending = ending_in(last, n);
     let branch = branch_in(rec, h, rises, last, ending);
-    put_four(out, 8 * size(k) + 4, label as u16, ending as u16, branch, 0);
+    put_four(
+        out,
+        8 * size(k) + 4,
+        label as u16,
+        ending as u16,
+        branch.0,
+        0,
+    );
 }
 
 pub fn block_rows(rec: &[u8], h: Header, out: &mut [u16])
@@ -169,8 +178,8 @@ pub fn edge_rows(rec: &[u8], h: Header, out: &mut [u16])
     let kinds = from(rec, edge_kinds_at(h));
     let mut e: u16 = 0;
     while e < h.edges {
-        let to = place_of(rec, h, rises, target_at(targets, e).0);
-        put_two(out, 2 * size(e), to, edge_kind_at(kinds, e) as u16);
+        let to = place_of(rec, h, rises, target_at(targets, e));
+        put_two(out, 2 * size(e), to.0, edge_kind_at(kinds, e) as u16);
         e += 1;
     }
 }
