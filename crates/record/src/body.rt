@@ -4,10 +4,10 @@ use lists::reads::u8_at;
 use lists::reads::u16_at;
 use lists::reads::u64_at;
 use x86::registers::register_named;
-use x86::table::isa;
+use x86::table::register_table;
 ghost use mathlib.Core.Path.{_≡_};
 ghost use Prim.Native.Nat.{_-_, _*_, _<_};
-ghost use Rattle.x86.specs.Table.{isaBytes};
+ghost use Rattle.x86.specs.Table.{registerTable};
 ghost use Rattle.record.specs.Body.{addressAt, bodyAt, mnemonicOf, conditionOf, operandCount, skipMark, segmentOf, baseOf, indexOf, scaleOf, memorySize, memoryAddress, operandKind, registerByte, operandRegister, operandNumber, nameByte, conditionOk, scaleOk, operandOk, fixedOk, isName, isZeros, operandsOk, bodyOk, bodiesOk};
 
 pub fn address_at(addresses: &[u8], i: u16) -> u64
@@ -121,24 +121,24 @@ fn scale_ok(k: u8) -> bool
     (k == 1) | (k == 2) | (k == 4) | (k == 8)
 }
 
-fn fixed_ok(isa: &[u8], body: &[u8]) -> bool
-    requires { ⌜ now isa ≡ isaBytes ⌝ }
+fn fixed_ok(registers: &[u8], body: &[u8]) -> bool
+    requires { ⌜ now registers ≡ registerTable ⌝ }
     ensures { λ r. ⌜ r ≡ fixedOk (now (body .entry)) ⌝ }
 {
     condition_ok(mnemonic(body), condition_code(body))
         & (op_count(body) <= 5)
         & (skip_mark(body) <= 1)
-        & register_named(isa, memory_segment(body))
-        & register_named(isa, memory_base(body))
-        & register_named(isa, memory_index(body))
+        & register_named(registers, memory_segment(body))
+        & register_named(registers, memory_base(body))
+        & register_named(registers, memory_index(body))
         & scale_ok(memory_index_scale(body))
 }
 
-fn operand_ok(isa: &[u8], body: &[u8], i: u8) -> bool
-    requires { ⌜ now isa ≡ isaBytes ⌝ }
+fn operand_ok(registers: &[u8], body: &[u8], i: u8) -> bool
+    requires { ⌜ now registers ≡ registerTable ⌝ }
     ensures { λ r. ⌜ r ≡ operandOk (now (body .entry)) i ⌝ }
 {
-    (op_kind(body, i) <= 11) & register_named(isa, register_byte(body, i))
+    (op_kind(body, i) <= 11) & register_named(registers, register_byte(body, i))
 }
 
 fn name_byte(c: u8) -> bool
@@ -171,24 +171,24 @@ fn is_zeros(name: &[u8]) -> bool
     (u64_at(name, 0) == 0) & (u64_at(name, 8) == 0) & (u64_at(name, 16) == 0)
 }
 
-fn operands_ok(isa: &[u8], body: &[u8]) -> bool
-    requires { ⌜ now isa ≡ isaBytes ⌝ }
+fn operands_ok(registers: &[u8], body: &[u8]) -> bool
+    requires { ⌜ now registers ≡ registerTable ⌝ }
     ensures { λ r. ⌜ r ≡ operandsOk (now (body .entry)) ⌝ }
 {
     let mut ok = true;
     let mut i: u8 = 0;
     while i < 5 {
-        ok = ok & operand_ok(isa, body, i);
+        ok = ok & operand_ok(registers, body, i);
         i += 1;
     }
     ok
 }
 
-fn body_ok(isa: &[u8], body: &[u8]) -> bool
-    requires { ⌜ now isa ≡ isaBytes ⌝ }
+fn body_ok(registers: &[u8], body: &[u8]) -> bool
+    requires { ⌜ now registers ≡ registerTable ⌝ }
     ensures { λ r. ⌜ r ≡ bodyOk (now (body .entry)) ⌝ }
 {
-    let fixed = fixed_ok(isa, body) & operands_ok(isa, body);
+    let fixed = fixed_ok(registers, body) & operands_ok(registers, body);
     let name = from(body, 68);
     if mnemonic(body) == 0 {
         return fixed & is_name(name);
@@ -200,12 +200,12 @@ fn body_ok(isa: &[u8], body: &[u8]) -> bool
 pub fn bodies_ok(bodies: &[u8], instructions: u16) -> bool
     ensures { λ r. ⌜ r ≡ bodiesOk (now (bodies .entry)) instructions ⌝ }
 {
-    let table = isa();
-    let isa: &[u8] = &table;
+    let table = register_table();
+    let registers: &[u8] = &table;
     let mut ok = true;
     let mut i: u16 = 0;
     while i < instructions {
-        ok = ok & body_ok(isa, body_at(bodies, i));
+        ok = ok & body_ok(registers, body_at(bodies, i));
         i += 1;
     }
     ok

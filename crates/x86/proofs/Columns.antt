@@ -41,7 +41,15 @@ column at f d n ok past t e k =
 
 -- a test of the name at each register's place: it has one just where the register exists
 abbrev named : ℕ → Bool
-named r = Bool·beq (not (eqb (getD isaBytes (0 + 8 * r) 0) 0)) (registerExists r)
+named r = Bool·beq (not (eqb (getD registerTable (0 + 8 * r) 0) 0)) (registerExists r)
+
+pub register-named : (t : List ℕ) → t ≡ registerTable → (r : ℕ) → not (eqb (pick (ltb r 160) (getD t (0 + 8 * r) 0) 0) 0) ≡ registerExists r
+unfolding registerTable registerNames registerName registerExists
+register-named t e r =
+    elim (decLt r 160) [
+      | yes h ↦ rw (lt-ltb r 160 h, e) (beq→eq _ _ (below-at named 160 tt r h))
+      | no h ↦ let g : 160 ≤ r = omega arith in rw (le-ltb r 160 g, not-there r g)
+    ]
 
 -- a test of the text at each number's place
 abbrev spells : (ℕ → ℕ) → (ℕ → List ℕ) → ℕ → Bool
@@ -64,14 +72,6 @@ module _ (t : List ℕ) (e : t ≡ isaBytes) where
   pub register-spelt : (r : ℕ) → r < 160 → textAt t (8 * r) ≡ registerName r
   unfolding isaBytes registerTable registerNames registerName
   register-spelt = texts (λ r. 8 * r) registerName 160 tt t e
-
-  pub register-named : (r : ℕ) → not (eqb (pick (ltb r 160) (getD t (0 + 8 * r) 0) 0) 0) ≡ registerExists r
-  unfolding isaBytes registerTable registerNames registerName registerExists
-  register-named r =
-      elim (decLt r 160) [
-        | yes h ↦ rw (lt-ltb r 160 h, e) (beq→eq _ _ (below-at named 160 tt r h))
-        | no h ↦ let g : 160 ≤ r = omega arith in rw (le-ltb r 160 g, not-there r g)
-      ]
 
   pub register-full : (r : ℕ) → pick (ltb r 160) (getD t (6 + 8 * r) 0) r ≡ fullRegister r
   unfolding isaBytes registerTable registerNames registerName fullRegister

@@ -1,7 +1,7 @@
 // Registers by number: class × 16 + index, 0 for none.
 ghost use mathlib.Core.Path.{_≡_};
 ghost use Rattle.x86.specs.Registers.{classSize, registerExists, registerName, fullRegister, registerSize, isStackPointer, calleeSaved};
-ghost use Rattle.x86.specs.Table.{isaBytes};
+ghost use Rattle.x86.specs.Table.{registerTable, isaBytes};
 use super::table::column;
 use super::table::text_at;
 
@@ -24,12 +24,12 @@ pub fn register_exists(r: u16) -> bool
     (r == 0) | (r % 16 < class_size(r / 16))
 }
 
-// The same of a byte, by the table: a register that exists has a name.
-pub fn register_named(isa: &[u8], r: u8) -> bool
-    requires { ⌜ now isa ≡ isaBytes ⌝ }
+// The same of a byte, by the table of registers: one that exists has a name.
+pub fn register_named(registers: &[u8], r: u8) -> bool
+    requires { ⌜ now registers ≡ registerTable ⌝ }
     ensures { λ b. ⌜ b ≡ registerExists r ⌝ }
 {
-    column(isa, 0, 8, 160, r, 0) != 0
+    column(registers, 0, 8, 160, r, 0) != 0
 }
 
 pub fn register_spelling(isa: &[u8], r: u8) -> &[u8]

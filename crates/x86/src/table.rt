@@ -89,19 +89,20 @@ const CONDITIONS: [u8; 136] = *b"\
     \x06\x06\x06\0\x0b\0\0\0\x02\x02\x06\0\x0e\0\0\0\x03\x03\x06\0\x0d\0\0\0\x04\x04\x06\0\x10\0\0\0\
     \x05\x05\x06\0\x0f\0\0\0";
 
-fn registers() -> [u8; 1280]
+// What question 8 reads.
+pub fn register_table() -> [u8; 1280]
     ensures { λ t. ⌜ t ≡ registerTable ⌝ }
 {
     REGISTERS
 }
 
-fn mnemonics() -> [u8; 736]
+fn mnemonic_table() -> [u8; 736]
     ensures { λ t. ⌜ t ≡ mnemonicTable ⌝ }
 {
     MNEMONICS
 }
 
-fn conditions() -> [u8; 136]
+fn condition_table() -> [u8; 136]
     ensures { λ t. ⌜ t ≡ conditionTable ⌝ }
 {
     CONDITIONS
@@ -132,7 +133,12 @@ pub fn isa() -> Table
     ensures { λ t. ⌜ t ≡ isaBytes ⌝ }
 {
     let mut all: Table = [0; 2152];
-    put_three(&mut all, &registers(), &mnemonics(), &conditions());
+    put_three(
+        &mut all,
+        &register_table(),
+        &mnemonic_table(),
+        &condition_table(),
+    );
     all
 }
 

@@ -11,16 +11,16 @@ use Rattle.record.proofs.body.bodies_ok.Statement.{statement}
 use Rattle.record.proofs.body.bodies_ok.Tie as tie
 
 abbrev Inv-loop : tie.InvT-loop
-Inv-loop bodies instructions isa ok₀ i₀ ok i = (i ≤ instructions) × (ok ≡ allBelow (λ j. bodyOk (bodyAt bodies j)) i)
+Inv-loop bodies instructions registers ok₀ i₀ ok i = (i ≤ instructions) × (ok ≡ allBelow (λ j. bodyOk (bodyAt bodies j)) i)
 
 abbrev μ-loop : tie.MeasureT-loop
-μ-loop bodies instructions isa ok₀ i₀ ok i = instructions - i
+μ-loop bodies instructions registers ok₀ i₀ ok i = instructions - i
 
-isa-requires : tie.Need-isa-requires Inv-loop μ-loop
-isa-requires c κs = search needs
+register-table-requires : tie.Need-register-table-requires Inv-loop μ-loop
+register-table-requires c κs = search needs
 
-slice-aggregate-isa : tie.Need-slice-aggregate-isa Inv-loop μ-loop
-slice-aggregate-isa c = search needs
+slice-aggregate-registers : tie.Need-slice-aggregate-registers Inv-loop μ-loop
+slice-aggregate-registers c = search needs
 
 loop-holds : tie.Need-loop-holds Inv-loop μ-loop
 loop-holds c = search needs
@@ -29,7 +29,7 @@ body-at-requires : tie.Need-body-at-requires Inv-loop μ-loop
 body-at-requires c κs = search needs
 
 body-ok-requires : tie.Need-body-ok-requires Inv-loop μ-loop
-body-ok-requires c κs = (c .before .before .before .before .isa) .ensures
+body-ok-requires c κs = (c .before .before .before .before .register-table) .ensures
 
 add-i : tie.Need-add-i Inv-loop μ-loop
 add-i c = search needs
@@ -53,8 +53,8 @@ bodies-ok-spec =
     (tie.spec
     Inv-loop
     μ-loop
-    isa-requires
-    slice-aggregate-isa
+    register-table-requires
+    slice-aggregate-registers
     loop-holds
     body-at-requires
     body-ok-requires

@@ -11,7 +11,7 @@ column-requires c κs = search needs
 returns : tie.Need-returns
 returns c =
     let s = c .before .before in
-    rw (c .column .ensures) (register-named (s .args .isa .now) (s .pre) _)
+    rw (c .column .ensures) (register-named (s .args .registers .now) (s .pre) _)
 
 pub register-named-spec : {M : Type 1} → statement M
 register-named-spec = tie.close (tie.spec column-requires returns)

@@ -9,20 +9,20 @@ use Rattle.x86.proofs.table.isa.Tie as tie
 slice-aggregate-put-three : tie.Need-slice-aggregate-put-three
 slice-aggregate-put-three c = search needs
 
-registers-requires : tie.Need-registers-requires
-registers-requires c κs = search needs
+register-table-requires : tie.Need-register-table-requires
+register-table-requires c κs = search needs
 
 slice-aggregate-put-three-2 : tie.Need-slice-aggregate-put-three-2
 slice-aggregate-put-three-2 c = search needs
 
-mnemonics-requires : tie.Need-mnemonics-requires
-mnemonics-requires c κs = search needs
+mnemonic-table-requires : tie.Need-mnemonic-table-requires
+mnemonic-table-requires c κs = search needs
 
 slice-aggregate-put-three-3 : tie.Need-slice-aggregate-put-three-3
 slice-aggregate-put-three-3 c = search needs
 
-conditions-requires : tie.Need-conditions-requires
-conditions-requires c κs = search needs
+condition-table-requires : tie.Need-condition-table-requires
+condition-table-requires c κs = search needs
 
 slice-aggregate-put-three-4 : tie.Need-slice-aggregate-put-three-4
 slice-aggregate-put-three-4 c = search needs
@@ -35,18 +35,18 @@ returns c =
     let t = c .before in
     let k = t .before .before in
     let m = k .before .before in
-    joined _ _ _ _ _ (m .before .before .registers .ensures) (m .mnemonics .ensures) (k .conditions .ensures) refl (t .put-three .ensures)
+    joined _ _ _ _ _ (m .before .before .register-table .ensures) (m .mnemonic-table .ensures) (k .condition-table .ensures) refl (t .put-three .ensures)
 
 pub isa-spec : {M : Type 1} → statement M
 isa-spec =
     tie.close
     (tie.spec
     slice-aggregate-put-three
-    registers-requires
+    register-table-requires
     slice-aggregate-put-three-2
-    mnemonics-requires
+    mnemonic-table-requires
     slice-aggregate-put-three-3
-    conditions-requires
+    condition-table-requires
     slice-aggregate-put-three-4
     put-three-requires
     returns)
