@@ -187,9 +187,9 @@ fn list_plan(
         (now (addresses .entry)) (now (addresses .exit)) (now (marks .entry)) (now (marks .exit)) (now (lines .entry)) (now (lines .exit)) r ⌝ }
 {
     if codes.len() <= 256 {
-        let mut t = [0u8; 8192];
-        let mut e = [0u32; 2048];
-        let mut k = [0u8; 2048];
+        let mut t = [0u8; 7000];
+        let mut e = [0u32; 2000];
+        let mut k = [0u8; 2000];
         let mut l = [0u32; 256];
         return list_by_draft(
             text,
@@ -212,9 +212,9 @@ fn list_plan(
             codes,
         );
     }
-    let mut t = [0u8; 16384];
-    let mut e = [0u32; 4096];
-    let mut k = [0u8; 4096];
+    let mut t = [0u8; 15600];
+    let mut e = [0u32; 3600];
+    let mut k = [0u8; 3600];
     let mut l = [0u32; 900];
     list_by_draft(
         text,

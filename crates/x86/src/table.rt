@@ -13,7 +13,9 @@ use lists::reads::within;
 use lists::stores::put_bytes;
 
 // 160 registers of 8 bytes: length, name, full register, size.
-const REGISTERS: [u8; 1280] = *b"\
+pub type RegisterTable = [u8; 1280];
+
+const REGISTERS: RegisterTable = *b"\
     \x04none\0\0\0\0\0\0\0\0\0\x01\0\0\0\0\0\0\0\x02\0\0\0\0\0\0\0\x03\0\
     \0\0\0\0\0\0\x04\0\0\0\0\0\0\0\x05\0\0\0\0\0\0\0\x06\0\0\0\0\0\0\0\x07\0\
     \0\0\0\0\0\0\x08\0\0\0\0\0\0\0\x09\0\0\0\0\0\0\0\x0a\0\0\0\0\0\0\0\x0b\0\
@@ -90,7 +92,7 @@ const CONDITIONS: [u8; 136] = *b"\
     \x05\x05\x06\0\x0f\0\0\0";
 
 // What question 8 reads.
-pub fn register_table() -> [u8; 1280]
+pub fn register_table() -> RegisterTable
     ensures { λ t. ⌜ t ≡ registerTable ⌝ }
 {
     REGISTERS
