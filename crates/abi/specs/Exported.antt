@@ -4,7 +4,8 @@ use mathlib.Core.List.{List, [], _∷_}
 use mathlib.Core.Path.{_≡_}
 use Rattle.lists.specs.Put.{put}
 use Rattle.record.specs.Asked.{firstNo}
-use Rattle.pseudo.specs.Called.{answerFor, numberOf, roomsOf, sizes, callNo, Called}
+use Rattle.pseudo.specs.Called.{answerFor, numberOf, roomsOf, sizes, callNo}
+use Rattle.pseudo.specs.Promise.{listsOf, Promise}
 use Rattle.pseudo.specs.declared.call.Answer.{Answer}
 use Rattle.pseudo.specs.declared.call.Answer.the-variants.{Listed, No}
 
@@ -19,7 +20,7 @@ module _ (s : List ℕ) (from to : ℕ) where
 
   pub record Exported (x x′ e e′ k k′ a a′ m m′ l l′ z z′ : List ℕ) (r : ℕ) : Type 0 where
     pub number : r ≡ numberOf (answered x e k a m l)
-    pub lists : Called s from to x x′ e e′ k k′ a a′ m m′ l l′ (answered x e k a m l)
+    pub lists : Promise s from to (listsOf x e k a m l) (listsOf x′ e′ k′ a′ m′ l′) (answered x e k a m l)
     pub sizes : z′ ≡ put 0 (sizeList (answered x e k a m l)) z
 
   -- the sizes alone: what the questions before 12 answer

@@ -2,3 +2,4 @@ pub mod Search
 pub mod Written
 pub mod Relations
 pub mod Commas
+pub mod Shows

@@ -2,3 +2,4 @@ pub mod Condition
 pub mod Arguments
 pub mod Turns
 pub mod Bounds
+pub mod Shown

@@ -39,7 +39,7 @@ module _ (h : Header) (s : List ℕ) (from : ℕ) where
   abbrev many : ℕ → ℕ
   many n = sumBelow (λ m. countIn (blockRows h s) (from + m)) n
 
-  many-within : (n : ℕ) → from + n ≤ h .blocks → before from + many n ≤ before (from + n)
+  pub many-within : (n : ℕ) → from + n ≤ h .blocks → before from + many n ≤ before (from + n)
   many-within zero le = let e : from + 0 ≡ from = omega arith in rw e (omega arith)
   many-within (suc n) le =
       let b : from + n < h .blocks = omega arith in

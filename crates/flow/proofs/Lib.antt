@@ -4,3 +4,4 @@ pub mod Totals
 pub mod Laws
 pub mod Terms
 pub mod Bounds
+pub mod Silenced

@@ -2,3 +2,4 @@ pub mod Silent
 pub mod Rows
 pub mod Counted
 pub mod Planned
+pub mod SilentList

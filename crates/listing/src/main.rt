@@ -87,17 +87,26 @@ fn complain(what: &[u8]) {
     io::write_all(STDERR_FILENO, what);
 }
 
+// How many bytes there are to list: none where reading failed, so that question 1 gets a no, and standard error says why.
+fn bytes_read(input: Input) -> usize
+    ensures { λ r. ⌜ r ≡ bytesRead input ⌝ }
+{
+    match input {
+        Input::All(n) => n,
+        Input::Failed => {
+            complain(b"listing: standard input cannot be read\n");
+            0
+        }
+    }
+}
+
 // Reads at most 65,537 bytes, one more than a record may have.
 fn main() {
     let mut rec = [0u8; 65537];
-    match read_input(&mut rec) {
-        Input::Failed => complain(b"listing: standard input cannot be read\n"),
-        Input::All(n) => {
-            let mut out = [0u8; 540746];
-            let m = answer(part(&rec, 0, n), &mut out);
-            if !io::write_all(STDOUT_FILENO, part(&out, 0, m)) {
-                complain(b"listing: standard output cannot be written\n");
-            }
-        }
+    let n = bytes_read(read_input(&mut rec));
+    let mut out = [0u8; 540746];
+    let m = answer(part(&rec, 0, n), &mut out);
+    if !io::write_all(STDOUT_FILENO, part(&out, 0, m)) {
+        complain(b"listing: standard output cannot be written\n");
     }
 }

@@ -3,3 +3,4 @@ pub mod Listing
 pub mod Answers
 pub mod Calls
 pub mod Demand
+pub mod Promises

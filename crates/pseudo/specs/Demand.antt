@@ -1,45 +1,71 @@
--- Demand 3, of the listing of a range: of the lists that the call fills. It holds for every record and range (`listing-demand3`).
-use Prim.Native.Nat.{ℕ, _+_, _-_, _*_, _≤_}
+-- Demand 3, of the lists that a call fills: the addresses, marks and token ends of its lines, beside what each line is written for.
+use Prim.Native.Nat.{ℕ, _+_, _-_, _*_, _%_, _≤_, _<_}
 use mathlib.Core.List.{List, [], _∷_, map}
 use mathlib.Core.Path.{_≡_}
 use lib.ListN.{length}
 use Rattle.lists.specs.Choice.{pick}
-use Rattle.record.specs.declared.header.Header.{Header}
 use Rattle.record.specs.Header.{headerOf}
-use Rattle.record.specs.Layout.{startsOf, targetsOf, addressesOf}
+use Rattle.record.specs.Layout.{startsOf, marksOf, targetsOf, addressesOf}
+use Rattle.record.specs.Blocks.{firstInstruction}
 use Rattle.record.specs.Body.{addressAt}
-use Rattle.structure.specs.Plan.{What, Line}
 use Rattle.structure.specs.Tree.{treeOf}
-use Rattle.structure.specs.Demand.{isLeftOut, Nested, Shallow, contexts, unsilencedIn, instructionsFrom}
-use Rattle.flow.specs.Rows.{blockRows, edgeRows, shownRows}
+use Rattle.structure.specs.Plan.{What, Line}
+use Rattle.structure.specs.Demand.{Context, Brace, isLeftOut, openThen, contexts}
+use Rattle.flow.specs.Rows.{blockRows, edgeRows}
+use Rattle.flow.specs.SilentList.{unsilentIn}
 use Rattle.flow.specs.Planned.{recordPlan}
-use Rattle.pseudo.specs.Listed.{lineAddress, recordAddresses}
 
--- "leave out the listing's labels, do-lines and lone closing braces": the address a of a line that stays, in front of those of the others
-abbrev pub stay : What → ℕ → List ℕ → List ℕ
-stay w a r = pick (isLeftOut w) r (a ∷ r)
+-- "leave out the listing's labels, do-lines and lone closing braces": of the lines' addresses those of "the lines that stay"
+unfoldable pub staying : List What → List ℕ → List ℕ
+staying [] va = []
+staying (w ∷ ws) [] = []
+staying (w ∷ ws) (a ∷ va) = pick (isLeftOut w) (staying ws va) (a ∷ staying ws va)
 
--- "the addresses of the lines that stay, one a line"
-unfoldable pub staying : Header → List ℕ → List Line → List ℕ
-staying h s [] = []
-staying h s (l ∷ ls) = stay (l .what) (lineAddress h s l) (staying h s ls)
+-- the indent in a line's mark: "indent, plus 256 if addressed"
+abbrev pub indentIn : ℕ → ℕ
+indentIn mark = mark % 256
+
+-- "Each brace opened by an if or do closes once, the innermost first, at its own indent, and no closing stands without its opening.":
+-- read with st open, the lines close all of it
+abbrev pub NestedBy : List Brace → List What → List ℕ → Type 0
+NestedBy st [] ms = st ≡ []
+NestedBy st (w ∷ ws) [] = ⊥
+NestedBy st (w ∷ ws) (m ∷ ms) = openThen w st (indentIn m) (λ st′. NestedBy st′ ws ms)
+
+-- every indent is below n
+abbrev pub ShallowBy : ℕ → List ℕ → Type 0
+ShallowBy n [] = Unit {0}
+ShallowBy n (m ∷ ms) = (indentIn m < n) × ShallowBy n ms
+
+abbrev pub whatOf : Line → What
+whatOf l = l .what
 
 module _ (s : List ℕ) (from to : ℕ) where
-  -- the range's instructions that are not silent, in block order
-  abbrev pub unsilencedOf : List ℕ
-  unsilencedOf =
+  -- what each line of the listing is written for
+  abbrev pub whats : List What
+  whats = map whatOf (recordPlan (headerOf s) s from to)
+
+  -- where the regions put each block of the range
+  abbrev pub placed : List Context
+  placed =
       let h = headerOf s in
-      unsilencedIn (blockRows h s) (shownRows h s) from (contexts (treeOf (blockRows h s) (edgeRows h s) (startsOf h s) (targetsOf h s) (h .blocks) from to) from to)
+      contexts (treeOf (blockRows h s) (edgeRows h s) (startsOf h s) (targetsOf h s) (h .blocks) from to) from to
 
-  abbrev pub lines : List Line
-  lines = recordPlan (headerOf s) s from to
+  -- the number of the range's instructions
+  abbrev pub instructions : ℕ
+  instructions = firstInstruction (marksOf (headerOf s) s) to - firstInstruction (marksOf (headerOf s) s) from
 
-  pub record ListingDemand3 : Type 0 where
-    -- "are exactly those of the range's instructions not on document 01's silent list, once each, in block order"
-    pub addresses : staying (headerOf s) s lines ≡ map (addressAt (addressesOf (headerOf s) s)) unsilencedOf
-    -- "Each brace opened by an if or do closes once, the innermost first, at its own indent, and no closing stands without its opening."
-    pub nested : Nested [] lines
-    -- "at most I + 2 × B lines", I and B being the range's
-    pub few : length (recordAddresses (headerOf s) s from to) ≤ instructionsFrom (blockRows (headerOf s) s) from to + 2 * (to - from)
+  pub record LinesDemand3 (addresses marks lines : List ℕ) : Type 0 where
+    -- one context for each place of the range
+    pub places : length placed ≡ to - from
+    -- "the addresses of the lines that stay, one a line, are exactly those of the range's instructions not on document 01's silent
+    -- list, once each, in block order"
+    pub shown : staying whats addresses ≡ map (addressAt (addressesOf (headerOf s) s)) (unsilentIn (headerOf s) s from placed)
+    -- "Each brace opened by an if or do closes once"
+    pub nested : NestedBy [] whats marks
+    -- "There are at most I + 2 × B lines", and each has an address, a mark and a token end
+    pub few : length addresses ≤ instructions + 2 * (to - from)
+    pub marked : length marks ≡ length addresses
+    pub ended : length lines ≡ length addresses
     -- "no indent exceeds the starting one by B or more"
-    pub shallow : Shallow (headerOf s .indent + (to - from)) lines
+    pub shallow : ShallowBy (headerOf s .indent + (to - from)) marks

@@ -3,3 +3,4 @@ pub mod Marks
 pub mod Draft
 pub mod Called
 pub mod Demand
+pub mod Promise

@@ -30,6 +30,7 @@ ghost use Rattle.tokens.specs.Listing.{listing};
 ghost use Rattle.pseudo.specs.Marks.{Indented};
 ghost use Rattle.pseudo.specs.Called.{PlanListed, Accepted, Called, sizesOf};
 ghost use Rattle.pseudo.specs.Draft.{Draft};
+ghost use Rattle.pseudo.specs.Promise.{listsOf, Promise};
 
 // A listing with its sizes, or the number of the question that got a no.
 pub enum Answer {
@@ -342,9 +343,9 @@ pub fn list(
     marks: &mut [u16],
     lines: &mut [u32],
 ) -> Answer
-    ensures { λ r. ⌜ Called (now (rec .entry)) from to
-        (now (text .entry)) (now (text .exit)) (now (ends .entry)) (now (ends .exit)) (now (kinds .entry)) (now (kinds .exit))
-        (now (addresses .entry)) (now (addresses .exit)) (now (marks .entry)) (now (marks .exit)) (now (lines .entry)) (now (lines .exit)) r ⌝ }
+    ensures { λ r. ⌜ Promise (now (rec .entry)) from to
+        (listsOf (now (text .entry)) (now (ends .entry)) (now (kinds .entry)) (now (addresses .entry)) (now (marks .entry)) (now (lines .entry)))
+        (listsOf (now (text .exit)) (now (ends .exit)) (now (kinds .exit)) (now (addresses .exit)) (now (marks .exit)) (now (lines .exit))) r ⌝ }
 {
     match record(rec, from, to) {
         Asked::No(n) => Answer::No(n),

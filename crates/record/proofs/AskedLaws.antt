@@ -44,6 +44,11 @@ module _ (s : List ℕ) (from to : ℕ) (yes : firstNo s from to ≡ 0) where
   unfolding blocksNo marksAsked
   yes-marks = passed 4 _ (ask 6 (startsAsked h s) (ask 7 (edgeKindsAsked h s) 0)) (stages .1) .0
 
+  -- question 8
+  pub yes-bodies : bodiesAsked h s ≡ true
+  unfolding contentsNo
+  yes-bodies = passed 7 (bodiesAsked h s) (ask 9 (atlasAsked h s) (ask 10 (spansAsked h s) 0)) (stages .2) .0
+
   -- question 9
   pub yes-atlas : atlasAsked h s ≡ true
   unfolding contentsNo

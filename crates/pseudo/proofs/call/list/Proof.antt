@@ -2,6 +2,7 @@
 -- By what the questions before 12 answer.
 use mathlib.Core.Path.{sym, _∙_}
 use Rattle.pseudo.proofs.Calls.{accepted, ends-small, called-no}
+use Rattle.pseudo.proofs.Promises.{promised}
 use borrow.Author.Needs.{needs}
 use Rattle.pseudo.proofs.call.list.Statement.{statement}
 use Rattle.pseudo.proofs.call.list.Tie as tie
@@ -29,7 +30,7 @@ list-accepted-requires : tie.Need-list-accepted-requires
 list-accepted-requires c κs = accepted ((c .before .before .before .before .before .before .before .before .before .before .before .before .before .before .before .before .before .args) .rec .now) ((c .before .before .before .before .before .before .before .before .before .before .before .before .before .before .before .before .before .args) .from) ((c .before .before .before .before .before .before .before .before .before .before .before .before .before .before .before .before .before .args) .to) _ (sym ((c .before .before .before .before .before .before .before .h) .given .1) ∙ (c .before .before .before .before .before .before .before .before .before .«record») .ensures)
 
 returns : tie.Need-returns
-returns c = called-no ((c .before .before .before .before .before .before .before .before .before .before .before .args) .rec .now) ((c .before .before .before .before .before .before .before .before .before .before .before .args) .from) ((c .before .before .before .before .before .before .before .before .before .before .before .args) .to) _ _ _ _ _ _ _ (sym ((c .before .n) .given .1) ∙ (c .before .before .before .«record») .ensures)
+returns c = promised _ _ _ _ _ _ (called-no ((c .before .before .before .before .before .before .before .before .before .before .before .args) .rec .now) ((c .before .before .before .before .before .before .before .before .before .before .before .args) .from) ((c .before .before .before .before .before .before .before .before .before .before .before .args) .to) _ _ _ _ _ _ _ (sym ((c .before .n) .given .1) ∙ (c .before .before .before .«record») .ensures))
 
 same-length : tie.Need-same-length
 same-length c = search needs
@@ -50,7 +51,7 @@ same-length-6 : tie.Need-same-length-6
 same-length-6 c = search needs
 
 returns-2 : tie.Need-returns-2
-returns-2 c = search needs
+returns-2 c = promised _ _ _ _ _ _ (c .before .before .before .before .before .before .before .before .before .before .before .before .list-accepted .ensures)
 
 pub list-spec : {M : Type 1} → statement M
 list-spec =

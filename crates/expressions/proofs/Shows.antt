@@ -1,0 +1,95 @@
+-- The tokens of a condition after CMP and TEST say what Intel's flags say.
+-- By the flag rule at each width, of the relation that the tokens' operator is.
+use Prim.Native.Nat.{ℕ, _-_, _≤_}
+use mathlib.Core.Path.{_≡_, refl, ap, _∙_}
+use mathlib.Core.Bool.{Bool, true, false, _||_}
+use mathlib.Core.List.{List, [], _∷_}
+use native.Mathlib.Omega.{arith}
+use borrow.Author.Tests.{eqb-true, eq-eqb, ne-eqb}
+use lib.Bits.{bitAnd}
+use lib.Dec.{eqb}
+use lib.IntN.{pos}
+use Rattle.lists.specs.Choice.{pick}
+use Rattle.lists.specs.Every.{both-yes}
+use Rattle.tokens.specs.Listing.{textOf}
+use Rattle.x86.specs.Words.{isOneOf}
+use Rattle.x86.specs.Mnemonics as mnemonic
+use Rattle.x86.specs.Conditions.{isRelation, relationAfterCmp, relationAfterTest, related, printsUnsigned}
+use Rattle.x86.specs.Flags.{signed, test, conditionHolds}
+use Rattle.x86.proofs.Rule.{flag-rule, rule}
+use Rattle.record.specs.declared.header.Header.{Header}
+use Rattle.record.specs.declared.search.Found.{Found}
+use Rattle.record.specs.declared.search.Found.the-variants.{At}
+use Rattle.record.specs.Layout.{bodiesOf}
+use Rattle.record.specs.Body.{mnemonicOf}
+use Rattle.operand.specs.Operand.{opTokens}
+use Rattle.operand.specs.Alike.{sameBytes, alike}
+use Rattle.expressions.specs.Condition.{flagWriter, bodyOf, afterCmp, afterTest, afterWriter, conditionAfter, conditionTokens}
+use Rattle.expressions.specs.Shown.{Reading, valueOf, AfterCmp, AfterTest, ConditionsShown}
+
+-- one of the four widths has a bit
+some-bits : (w : ℕ) → isOneOf w (8 ∷ 16 ∷ 32 ∷ 64 ∷ []) ≡ true → 1 ≤ w
+some-bits w e = by (eqb w 8) (eqb w 16) (eqb w 32) (eqb w 64) refl refl refl refl e
+  where
+    by : (a b c d : Bool) → eqb w 8 ≡ a → eqb w 16 ≡ b → eqb w 32 ≡ c → eqb w 64 ≡ d → (a || (b || (c || (d || false)))) ≡ true → 1 ≤ w
+    by true b c d p q r t e = omega (arith, eqb-true w 8 p)
+    by false true c d p q r t e = omega (arith, eqb-true w 16 q)
+    by false false true d p q r t e = omega (arith, eqb-true w 32 r)
+    by false false false true p q r t e = omega (arith, eqb-true w 64 t)
+    by false false false false p q r t e = absurd (let z : _≡_ {A = ℕ} 0 1 = cc in omega arith)
+
+-- texts that are the same bytes are equal
+same-text : (x y : List ℕ) → sameBytes x y ≡ true → x ≡ y
+unfolding sameBytes
+same-text [] [] e = refl
+same-text [] (b ∷ y) e = absurd (let z : _≡_ {A = ℕ} 0 1 = cc in omega arith)
+same-text (a ∷ x) [] e = absurd (let z : _≡_ {A = ℕ} 0 1 = cc in omega arith)
+same-text (a ∷ x) (b ∷ y) e =
+    let q = both-yes (eqb a b) (sameBytes x y) e in
+    rw (eqb-true a b (q .0), same-text x y (q .1))
+
+module _ (h : Header) (s : List ℕ) where
+  shown-cmp : (b : List ℕ) (k : ℕ) → isRelation (relationAfterCmp k) ≡ true → AfterCmp h s b k (afterCmp h s b k)
+  unfolding printsUnsigned
+  shown-cmp b k e = record {
+    relation = relationAfterCmp k;
+    tokens = rw e;
+    right = λ w o r. flag-rule w (some-bits w o) .after-cmp (valueOf h s r b 0) (valueOf h s r b 1) (r .fits _) (r .fits _) k e;
+  }
+
+  tested-right : (b : List ℕ) (k w : ℕ) (r : Reading w) (c : Bool) → alike h s b ≡ c → 1 ≤ w → isRelation (relationAfterTest k) ≡ true
+      → related (relationAfterTest k) (signed w (pick c (valueOf h s r b 0) (bitAnd (valueOf h s r b 0) (valueOf h s r b 1)))) (pos 0) ≡ conditionHolds k (test w (valueOf h s r b 0) (valueOf h s r b 1))
+  unfolding alike
+  tested-right b k w r true a o e =
+      flag-rule w o .after-test-alike (valueOf h s r b 0) (valueOf h s r b 1)
+      (ap (r .value) (same-text (textOf (opTokens h s b 0)) (textOf (opTokens h s b 1)) a)) k e
+  tested-right b k w r false a o e = flag-rule w o .after-test (valueOf h s r b 0) (valueOf h s r b 1) k e
+
+  shown-test : (b : List ℕ) (k : ℕ) → isRelation (relationAfterTest k) ≡ true → AfterTest h s b k (afterTest h s b k)
+  shown-test b k e = record {
+    relation = relationAfterTest k;
+    tokens = rw e;
+    right = λ w o r. tested-right b k w r (alike h s b) refl (some-bits w o) e;
+  }
+
+  module _ (first i p k : ℕ) (f : flagWriter (bodiesOf h s) first (i - first) ≡ At p) where
+    condition-is : conditionTokens h s first i k ≡ afterWriter h s (bodyOf h s p) k
+    unfolding conditionTokens
+    condition-is = ap (λ (x : Found). conditionAfter h s x k) f
+
+    cmp-is : mnemonicOf (bodyOf h s p) ≡ mnemonic.cmp → conditionTokens h s first i k ≡ afterCmp h s (bodyOf h s p) k
+    unfolding afterWriter
+    cmp-is m = condition-is ∙ rw (eq-eqb (mnemonicOf (bodyOf h s p)) mnemonic.cmp m)
+
+    test-is : mnemonicOf (bodyOf h s p) ≡ mnemonic.test → conditionTokens h s first i k ≡ afterTest h s (bodyOf h s p) k
+    unfolding afterWriter
+    test-is m =
+        let n : (mnemonicOf (bodyOf h s p) ≡ mnemonic.cmp) → ⊥ = λ z. omega (arith, m, z) in
+        condition-is ∙ rw (ne-eqb (mnemonicOf (bodyOf h s p)) mnemonic.cmp n, eq-eqb (mnemonicOf (bodyOf h s p)) mnemonic.test m)
+
+  pub conditions-shown : ConditionsShown h s
+  conditions-shown = record {
+    after-cmp = λ first i p k f m a. rw (cmp-is first i p k f m) (shown-cmp (bodyOf h s p) k (rule .printed .after-cmp k ∙ a));
+    after-test = λ first i p k f m a. rw (test-is first i p k f m) (shown-test (bodyOf h s p) k (rule .printed .after-test k ∙ a));
+    turned = rule .turned;
+  }

@@ -1,0 +1,133 @@
+-- What a call answers and leaves is what it promises, demand by demand.
+-- With a number every list is as it was; with 0 the lists begin with the defined listing, of which demand 3 is proved.
+use mathlib.Core.Path.{_≡_, refl, sym, ap, _∙_}
+use mathlib.Core.Bool.{Bool, true, false, _&&_}
+use mathlib.Core.List.{List}
+use Prim.Native.Nat.{ℕ, zero, suc, _≤_}
+use native.Mathlib.Nat.{le-refl}
+use native.Mathlib.Omega.{arith}
+use lib.ListN.{length, take, drop}
+use lib.Seq.{take-append-le, take-all}
+use lib.Dec.{leb}
+use Rattle.record.specs.Header.{headerOf, headerFits, fieldsOk, limitsOk}
+use Rattle.record.specs.Layout.{lengthOk}
+use Rattle.record.specs.Asked.{ask, orElse, sizesNo, marksAsked, startsAsked, edgeKindsAsked, bodiesAsked, atlasAsked, spansAsked, blocksNo, contentsNo, rangeNo, firstNo}
+use Rattle.record.proofs.AskedLaws.{later}
+use Rattle.tokens.specs.Listing.{Listing}
+use Rattle.pseudo.specs.Listed.{recordListing, recordAddresses, recordMarks}
+use Rattle.pseudo.specs.Called.{numberOf, roomNo, answerFor, over, Leaves, roomsOf, sizes, callNo, Called}
+use Rattle.pseudo.specs.Demand.{LinesDemand3}
+use Rattle.pseudo.specs.Promise.{Lists, listsOf, valuesOf, Promise}
+use Rattle.pseudo.specs.declared.rooms.Sizes.{Sizes}
+use Rattle.pseudo.specs.declared.rooms.Rooms.{Rooms}
+use Rattle.pseudo.specs.declared.call.Answer.{Answer}
+use Rattle.expressions.proofs.Shows.{conditions-shown}
+use Rattle.line.proofs.ArgumentLaw.{argument-law}
+use Rattle.pseudo.proofs.Demand.{listing-demand3}
+
+-- ---- the numbers
+
+ask-within : (n : ℕ) (q : Bool) (l m : ℕ) → n ≤ m → l ≤ m → ask n q l ≤ m
+ask-within n true l m a b = b
+ask-within n false l m a b = a
+
+else-within : (a b m : ℕ) → a ≤ m → b ≤ m → orElse a b ≤ m
+else-within zero b m p q = q
+else-within (suc a) b m p q = p
+
+first-within : (s : List ℕ) (from to : ℕ) → firstNo s from to ≤ 14
+unfolding firstNo sizesNo blocksNo contentsNo rangeNo
+first-within s from to =
+    let h = headerOf s in
+    let four = ask 4 (lengthOk h s) 0 in
+    let three = ask 3 (limitsOk h) four in
+    let seven = ask 7 (edgeKindsAsked h s) 0 in
+    let ten = ask 10 (spansAsked h s) 0 in
+    else-within (sizesNo s) (orElse (blocksNo h s) (orElse (contentsNo h s) (rangeNo h from to))) 14
+    (ask-within 1 (headerFits s) (ask 2 (fieldsOk h) three) 14 (omega arith)
+    (ask-within 2 (fieldsOk h) three 14 (omega arith)
+    (ask-within 3 (limitsOk h) four 14 (omega arith) (ask-within 4 (lengthOk h s) 0 14 (omega arith) (omega arith)))))
+    (else-within (blocksNo h s) (orElse (contentsNo h s) (rangeNo h from to)) 14
+    (ask-within 5 (marksAsked h s) (ask 6 (startsAsked h s) seven) 14 (omega arith)
+    (ask-within 6 (startsAsked h s) seven 14 (omega arith) (ask-within 7 (edgeKindsAsked h s) 0 14 (omega arith) (omega arith))))
+    (else-within (contentsNo h s) (rangeNo h from to) 14
+    (ask-within 8 (bodiesAsked h s) (ask 9 (atlasAsked h s) ten) 14 (omega arith)
+    (ask-within 9 (atlasAsked h s) ten 14 (omega arith) (ask-within 10 (spansAsked h s) 0 14 (omega arith) (omega arith))))
+    (ask-within 11 (leb from to && leb to (h .blocks)) 0 14 (omega arith) (omega arith))))
+
+room-within : (z : Sizes) (r : Rooms) → roomNo z r ≤ 14
+unfolding roomNo
+room-within z r =
+    let tokens = leb (z .tokens) (r .ends) && leb (z .tokens) (r .kinds) in
+    let lines = leb (z .lines) (r .addresses) && leb (z .lines) (r .marks) && leb (z .lines) (r .lines) in
+    ask-within 12 (leb (z .text) (r .text)) (ask 13 tokens (ask 14 lines 0)) 14 (omega arith)
+    (ask-within 13 tokens (ask 14 lines 0) 14 (omega arith) (ask-within 14 lines 0 14 (le-refl 14) (omega arith)))
+
+call-within : (s : List ℕ) (from to : ℕ) (r : Rooms) → callNo s from to r ≤ 14
+unfolding callNo
+call-within s from to r = else-within (firstNo s from to) (roomNo (sizes s from to) r) 14 (first-within s from to) (room-within (sizes s from to) r)
+
+number-is : (z : Sizes) (n : ℕ) → numberOf (answerFor z n) ≡ n
+number-is z zero = refl
+number-is z (suc n) = refl
+
+-- ---- the lists
+
+-- a list that begins with new entries, read back by their number
+read-back : (n : ℕ) (new old l : List ℕ) → length new ≡ n → l ≡ over new old → take n l ≡ new
+read-back n new old l e p =
+    ap (take n) p ∙ take-append-le n new (drop (length new) old) (omega arith) ∙ take-all n new (omega arith)
+
+same : {x x′ e e′ k k′ a a′ m m′ l l′ : List ℕ} → x′ ≡ x → e′ ≡ e → k′ ≡ k → a′ ≡ a → m′ ≡ m → l′ ≡ l → listsOf x′ e′ k′ a′ m′ l′ ≡ listsOf x e k a m l
+same p q r s t u = rw (p, q, r, s, t, u)
+
+module _ (s : List ℕ) (from to : ℕ) (b a : Lists) (r : Answer)
+    (c : Called s from to (b .text) (a .text) (b .ends) (a .ends) (b .kinds) (a .kinds) (b .addresses) (a .addresses) (b .marks) (a .marks) (b .lines) (a .lines) r) where
+  abbrev rooms : Rooms
+  rooms = roomsOf (b .text) (b .ends) (b .kinds) (b .addresses) (b .marks) (b .lines)
+
+  abbrev t : Listing
+  t = recordListing (headerOf s) s from to
+
+  abbrev va : List ℕ
+  va = recordAddresses (headerOf s) s from to
+
+  abbrev mk : List ℕ
+  mk = recordMarks (headerOf s) s from to
+
+  number : numberOf r ≡ callNo s from to rooms
+  number = ap numberOf (c .answer) ∙ number-is (sizes s from to) (callNo s from to rooms)
+
+  abbrev Left : ℕ → Type 0
+  Left n = Leaves n (sizes s from to) t va mk (b .text) (a .text) (b .ends) (a .ends) (b .kinds) (a .kinds) (b .addresses) (a .addresses) (b .marks) (a .marks) (b .lines) (a .lines) r
+
+  refused : (n : ℕ) → Left n → (n ≡ 0 → ⊥) → (valuesOf r ≡ record { text = 0; tokens = 0; lines = 0 }) × (a ≡ b)
+  refused zero p o = absurd (o refl)
+  refused (suc n) p o = (ap valuesOf (p .answer), same (p .text) (p .ends) (p .kinds) (p .addresses) (p .marks) (p .lines))
+
+  listed : (n : ℕ) → Left n → n ≡ 0 → firstNo s from to ≡ 0
+      → LinesDemand3 s from to (take (valuesOf r .lines) (a .addresses)) (take (valuesOf r .lines) (a .marks)) (take (valuesOf r .lines) (a .lines))
+  listed (suc n) p z q = absurd (omega arith)
+  listed zero p z q =
+      let d = listing-demand3 s from to q in
+      let size : valuesOf r .lines ≡ length va = ap (λ (g : Answer). valuesOf g .lines) (p .answer) in
+      rw (
+        size,
+        read-back (length va) va (b .addresses) (a .addresses) refl (p .addresses),
+        read-back (length va) mk (b .marks) (a .marks) (d .marked) (p .marks),
+        read-back (length va) (t .lines) (b .lines) (a .lines) (d .ended) (p .lines),
+      ) d
+
+  accepted : callNo s from to rooms ≡ 0 → firstNo s from to ≡ 0
+  unfolding callNo
+  accepted e = later (firstNo s from to) (roomNo (sizes s from to) rooms) e .0
+
+  pub promised : Promise s from to b a r
+  promised = record {
+    called = c;
+    number = rw number (call-within s from to rooms);
+    refused = λ o. refused (callNo s from to rooms) c (λ e. o (number ∙ e));
+    relations = conditions-shown (headerOf s) s;
+    arguments = argument-law (headerOf s) s;
+    demand3 = λ e. listed (callNo s from to rooms) c (sym number ∙ e) (accepted (sym number ∙ e));
+  }

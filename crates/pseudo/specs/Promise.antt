@@ -1,0 +1,47 @@
+-- What a call promises, demand by demand, of what its caller holds: the record's bytes, the lists before and after, and the answer.
+use Prim.Native.Nat.{ℕ, _≤_}
+use mathlib.Core.List.{List}
+use mathlib.Core.Path.{_≡_}
+use lib.ListN.{take}
+use Rattle.record.specs.Header.{headerOf}
+use Rattle.expressions.specs.Shown.{ConditionsShown}
+use Rattle.line.specs.ArgumentLaw.{ArgumentLaw}
+use Rattle.pseudo.specs.Called.{numberOf, Called}
+use Rattle.pseudo.specs.Demand.{LinesDemand3}
+use Rattle.pseudo.specs.declared.rooms.Sizes.{Sizes}
+use Rattle.pseudo.specs.declared.call.Answer.{Answer}
+use Rattle.pseudo.specs.declared.call.Answer.the-variants.{Listed, No}
+
+-- "Lists filled: text; token ends (u32) beside kinds ..; line addresses .. beside u16 marks .. and u32 token ends."
+pub record Lists : Type 0 where
+  pub text : List ℕ
+  pub ends : List ℕ
+  pub kinds : List ℕ
+  pub addresses : List ℕ
+  pub marks : List ℕ
+  pub lines : List ℕ
+
+abbrev pub listsOf : (text ends kinds addresses marks lines : List ℕ) → Lists
+listsOf x e k a m l = record { text = x; ends = e; kinds = k; addresses = a; marks = m; lines = l }
+
+-- "A listing's answer is 0 and the sizes"; "A number comes with all sizes zero"
+abbrev pub valuesOf : Answer → Sizes
+valuesOf (Listed z) = z
+valuesOf (No n) = record { text = 0; tokens = 0; lines = 0 }
+
+pub record Promise (s : List ℕ) (from to : ℕ) (b a : Lists) (r : Answer) : Type 0 where
+  -- the number is that of the first question that gets a no, the sizes are the defined listing's, and each list begins with it and is
+  -- unchanged past it
+  pub called : Called s from to
+      (b .text) (a .text) (b .ends) (a .ends) (b .kinds) (a .kinds) (b .addresses) (a .addresses) (b .marks) (a .marks) (b .lines) (a .lines) r
+  -- "each call on arbitrary bytes finishes with a listing or with one of fourteen numbers"
+  pub number : numberOf r ≤ 14
+  -- "A number comes with all sizes zero, and every lent list is then unchanged."
+  pub refused : (numberOf r ≡ 0 → ⊥) → (valuesOf r ≡ record { text = 0; tokens = 0; lines = 0 }) × (a ≡ b)
+  -- "The relation printed after CMP or TEST is proved against Intel's flag rules": of the tokens of every condition that a line prints
+  pub relations : ConditionsShown (headerOf s) s
+  -- "and the argument registers against the two calling conventions": of the tokens of every line, by the lines before it
+  pub arguments : ArgumentLaw (headerOf s) s
+  -- demand 3, of the lines that the lists hold
+  pub demand3 : numberOf r ≡ 0
+      → LinesDemand3 s from to (take (valuesOf r .lines) (a .addresses)) (take (valuesOf r .lines) (a .marks)) (take (valuesOf r .lines) (a .lines))
