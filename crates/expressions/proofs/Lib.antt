@@ -3,3 +3,4 @@ pub mod Written
 pub mod Relations
 pub mod Commas
 pub mod Shows
+pub mod ArgumentLaw

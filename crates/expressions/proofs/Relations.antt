@@ -1,18 +1,19 @@
 -- What a condition prints, from the tokens that its parts push.
 -- Each law takes what the callees ensure of the sheets between.
 use mathlib.Core.Path.{_≡_, refl, sym, ap, _∙_}
-use mathlib.Core.Bool.{Bool, true, false}
+use mathlib.Core.Bool.{Bool, true, false, _&&_, false≢true}
 use mathlib.Core.List.{List, [], _∷_, _++_}
-use Prim.Native.Nat.{ℕ, _+_, _-_, _≤_, _<_}
+use Prim.Native.Nat.{ℕ, zero, suc, _+_, _-_, _≤_, _<_}
 use native.Mathlib.Omega.{arith}
-use borrow.Author.Tests.{lt-ltb, le-ltb, eq-eqb, ne-eqb}
-use lib.ListN.{length, List·getD-eq-default}
+use borrow.Author.Tests.{ltb-true, lt-ltb, le-ltb, eq-eqb, ne-eqb}
+use lib.Dec.{ltb}
 use Rattle.lists.specs.Entries.{tab, entry}
+use Rattle.lists.specs.Every.{both-yes}
 use Rattle.tokens.specs.Token.{Token, token, punct, keyword}
 use Rattle.tokens.specs.Words.{words, wordToken}
 use Rattle.tokens.specs.Sheet.{Sheet, push, pushes}
 use Rattle.tokens.specs.SheetLaws.{chain}
-use Rattle.x86.specs.Conditions.{operatorText, relationAfterCmp, relationAfterTest, relationAfterOther}
+use Rattle.x86.specs.Conditions.{conditionNames, conditionName, operatorText, relationAfterCmp, relationAfterTest, relationAfterOther}
 use Rattle.record.specs.declared.header.Header.{Header}
 use Rattle.record.specs.Layout.{bodiesOf}
 use Rattle.record.specs.Body.{bodyAt, mnemonicOf}
@@ -33,15 +34,23 @@ operator-word r h =
     entry (λ r. wordToken (10 + r)) 6 (tab operator 0 6) (token 0 []) operators r h
     ∙ sym (entry operator 6 (tab operator 0 6) (token 0 []) refl r h)
 
-count : length words ≡ 102
-unfolding words
-count = refl
+-- the words of the conditions, in order
+conditions : tab (λ k. wordToken (76 + k)) 0 16 ≡ tab (λ k. flagsWord (suc k)) 0 16
+unfolding wordToken words conditionName conditionNames
+conditions = refl
 
--- past the last word all words are one
-pub word-past : (v w : ℕ) → 102 ≤ v → 102 ≤ w → wordToken v ≡ wordToken w
-unfolding wordToken
-word-past v w h k =
-    List·getD-eq-default words (token 0 []) (omega (arith, count)) ∙ sym (List·getD-eq-default words (token 0 []) (omega (arith, count)))
+pub flags-word : (cc : ℕ) → (ltb 0 cc && ltb cc 17) ≡ true → wordToken (75 + cc) ≡ flagsWord cc
+flags-word zero t = absurd (false≢true t)
+flags-word (suc k) t =
+    let h : k < 16 = omega (arith, ltb-true (suc k) 17 (both-yes (ltb 0 (suc k)) (ltb (suc k) 17) t .1)) in
+    let e : 75 + suc k ≡ 76 + k = omega arith in
+    ap wordToken e
+    ∙ entry (λ k. wordToken (76 + k)) 16 (tab (λ k. flagsWord (suc k)) 0 16) (token 0 []) conditions k h
+    ∙ sym (entry (λ k. flagsWord (suc k)) 16 (tab (λ k. flagsWord (suc k)) 0 16) (token 0 []) refl k h)
+
+pub no-flags-word : (cc : ℕ) → (ltb 0 cc && ltb cc 17) ≡ false → wordToken 255 ≡ flagsWord cc
+unfolding wordToken words
+no-flags-word cc t = rw t
 
 pub one : (S S₁ : Sheet) (t u : Token) → t ≡ u → S₁ ≡ push S t → S₁ ≡ pushes S (u ∷ [])
 unfolding pushes

@@ -1,9 +1,10 @@
--- The tokens of a condition after CMP and TEST say what Intel's flags say.
--- By the flag rule at each width, of the relation that the tokens' operator is.
+-- The tokens of a condition after CMP and TEST say what Intel's flags say; those of the negated one say the opposite.
+-- By the flag rule at each width, of the relation that the tokens' operator is; `negate` keeps to the conditions that print a relation.
 use Prim.Native.Nat.{ℕ, _-_, _≤_}
 use mathlib.Core.Path.{_≡_, refl, ap, _∙_}
 use mathlib.Core.Bool.{Bool, true, false, _||_}
 use mathlib.Core.List.{List, [], _∷_}
+use Prim.Native.String.{String}
 use native.Mathlib.Omega.{arith}
 use borrow.Author.Tests.{eqb-true, eq-eqb, ne-eqb}
 use lib.Bits.{bitAnd}
@@ -12,11 +13,12 @@ use lib.IntN.{pos}
 use Rattle.lists.specs.Choice.{pick}
 use Rattle.lists.specs.Every.{both-yes}
 use Rattle.tokens.specs.Listing.{textOf}
-use Rattle.x86.specs.Words.{isOneOf}
+use Rattle.x86.specs.Words.{wordsOf, isOneOf, isWordOf}
 use Rattle.x86.specs.Mnemonics as mnemonic
-use Rattle.x86.specs.Conditions.{isRelation, relationAfterCmp, relationAfterTest, related, printsUnsigned}
-use Rattle.x86.specs.Flags.{signed, test, conditionHolds}
+use Rattle.x86.specs.Conditions.{conditionNames, conditionName, among, negate, isRelation, relationAfterCmp, relationAfterTest, related, printsUnsigned}
+use Rattle.x86.specs.Flags.{Flags, signed, test, conditionHolds}
 use Rattle.x86.proofs.Rule.{flag-rule, rule}
+use Rattle.x86.proofs.Negate.{among-negated, named-turns}
 use Rattle.record.specs.declared.header.Header.{Header}
 use Rattle.record.specs.declared.search.Found.{Found}
 use Rattle.record.specs.declared.search.Found.the-variants.{At}
@@ -25,7 +27,7 @@ use Rattle.record.specs.Body.{mnemonicOf}
 use Rattle.operand.specs.Operand.{opTokens}
 use Rattle.operand.specs.Alike.{sameBytes, alike}
 use Rattle.expressions.specs.Condition.{flagWriter, bodyOf, afterCmp, afterTest, afterWriter, conditionAfter, conditionTokens}
-use Rattle.expressions.specs.Shown.{Reading, valueOf, AfterCmp, AfterTest, ConditionsShown}
+use Rattle.expressions.specs.Shown.{Reading, turnedIf, valueOf, AfterCmp, AfterTest, Shows}
 
 -- one of the four widths has a bit
 some-bits : (w : ℕ) → isOneOf w (8 ∷ 16 ∷ 32 ∷ 64 ∷ []) ≡ true → 1 ≤ w
@@ -48,30 +50,46 @@ same-text (a ∷ x) (b ∷ y) e =
     let q = both-yes (eqb a b) (sameBytes x y) e in
     rw (eqb-true a b (q .0), same-text x y (q .1))
 
-module _ (h : Header) (s : List ℕ) where
-  shown-cmp : (b : List ℕ) (k : ℕ) → isRelation (relationAfterCmp k) ≡ true → AfterCmp h s b k (afterCmp h s b k)
+-- condition k shown by condition k′: as it is, or turned over by its opposite
+record ShownBy (k k′ : ℕ) (turned : Bool) : Type 0 where
+  unsigned : among k′ "b ae be a" ≡ among k "b ae be a"
+  holds : (f : Flags) → conditionHolds k′ f ≡ turnedIf turned (conditionHolds k f)
+
+module _ (h : Header) (s b : List ℕ) (k k′ : ℕ) (turned : Bool) (by : ShownBy k k′ turned) where
+  shown-cmp : isRelation (relationAfterCmp k′) ≡ true → AfterCmp h s b k turned (afterCmp h s b k′)
   unfolding printsUnsigned
-  shown-cmp b k e = record {
-    relation = relationAfterCmp k;
-    tokens = rw e;
-    right = λ w o r. flag-rule w (some-bits w o) .after-cmp (valueOf h s r b 0) (valueOf h s r b 1) (r .fits _) (r .fits _) k e;
+  shown-cmp e = record {
+    relation = relationAfterCmp k′;
+    tokens = rw (e, by .unsigned);
+    right = λ w o r.
+        let rule = flag-rule w (some-bits w o) .after-cmp (valueOf h s r b 0) (valueOf h s r b 1) (r .fits _) (r .fits _) k′ e in
+        (rw (by .unsigned) at rule) ∙ by .holds _;
   }
 
-  tested-right : (b : List ℕ) (k w : ℕ) (r : Reading w) (c : Bool) → alike h s b ≡ c → 1 ≤ w → isRelation (relationAfterTest k) ≡ true
-      → related (relationAfterTest k) (signed w (pick c (valueOf h s r b 0) (bitAnd (valueOf h s r b 0) (valueOf h s r b 1)))) (pos 0) ≡ conditionHolds k (test w (valueOf h s r b 0) (valueOf h s r b 1))
+  tested-right : (w : ℕ) (r : Reading w) (c : Bool) → alike h s b ≡ c → 1 ≤ w → isRelation (relationAfterTest k′) ≡ true
+      → related (relationAfterTest k′) (signed w (pick c (valueOf h s r b 0) (bitAnd (valueOf h s r b 0) (valueOf h s r b 1)))) (pos 0) ≡ conditionHolds k′ (test w (valueOf h s r b 0) (valueOf h s r b 1))
   unfolding alike
-  tested-right b k w r true a o e =
+  tested-right w r true a o e =
       flag-rule w o .after-test-alike (valueOf h s r b 0) (valueOf h s r b 1)
-      (ap (r .value) (same-text (textOf (opTokens h s b 0)) (textOf (opTokens h s b 1)) a)) k e
-  tested-right b k w r false a o e = flag-rule w o .after-test (valueOf h s r b 0) (valueOf h s r b 1) k e
+      (ap (r .value) (same-text (textOf (opTokens h s b 0)) (textOf (opTokens h s b 1)) a)) k′ e
+  tested-right w r false a o e = flag-rule w o .after-test (valueOf h s r b 0) (valueOf h s r b 1) k′ e
 
-  shown-test : (b : List ℕ) (k : ℕ) → isRelation (relationAfterTest k) ≡ true → AfterTest h s b k (afterTest h s b k)
-  shown-test b k e = record {
-    relation = relationAfterTest k;
+  shown-test : isRelation (relationAfterTest k′) ≡ true → AfterTest h s b k turned (afterTest h s b k′)
+  shown-test e = record {
+    relation = relationAfterTest k′;
     tokens = rw e;
-    right = λ w o r. tested-right b k w r (alike h s b) refl (some-bits w o) e;
+    right = λ w o r. tested-right w r (alike h s b) refl (some-bits w o) e ∙ by .holds _;
   }
 
+as-it-is : (k : ℕ) → ShownBy k k false
+as-it-is k = record { unsigned = refl; holds = λ f. refl }
+
+-- the three sets that the paper names have each condition with its opposite
+by-opposite : (names : String) → isWordOf [] (wordsOf names) ≡ false → (k : ℕ) → among k names ≡ true → ShownBy k (negate k) true
+unfolding negate conditionName conditionNames
+by-opposite names e k a = record { unsigned = among-negated "b ae be a" tt k; holds = named-turns names e k a }
+
+module _ (h : Header) (s : List ℕ) where
   module _ (first i p k : ℕ) (f : flagWriter (bodiesOf h s) first (i - first) ≡ At p) where
     condition-is : conditionTokens h s first i k ≡ afterWriter h s (bodyOf h s p) k
     unfolding conditionTokens
@@ -87,9 +105,21 @@ module _ (h : Header) (s : List ℕ) where
         let n : (mnemonicOf (bodyOf h s p) ≡ mnemonic.cmp) → ⊥ = λ z. omega (arith, m, z) in
         condition-is ∙ rw (ne-eqb (mnemonicOf (bodyOf h s p)) mnemonic.cmp n, eq-eqb (mnemonicOf (bodyOf h s p)) mnemonic.test m)
 
-  pub conditions-shown : ConditionsShown h s
-  conditions-shown = record {
-    after-cmp = λ first i p k f m a. rw (cmp-is first i p k f m) (shown-cmp (bodyOf h s p) k (rule .printed .after-cmp k ∙ a));
-    after-test = λ first i p k f m a. rw (test-is first i p k f m) (shown-test (bodyOf h s p) k (rule .printed .after-test k ∙ a));
-    turned = rule .turned;
+  pub shows : (first i k : ℕ) → Shows h s first i k false (conditionTokens h s first i k)
+  shows first i k = record {
+    after-cmp = λ p f m a. rw (cmp-is first i p k f m) (shown-cmp h s (bodyOf h s p) k k false (as-it-is k) (rule .printed .after-cmp k ∙ a));
+    after-test = λ p f m a. rw (test-is first i p k f m) (shown-test h s (bodyOf h s p) k k false (as-it-is k) (rule .printed .after-test k ∙ a));
+  }
+
+  pub shows-turned : (first i k : ℕ) → Shows h s first i k true (conditionTokens h s first i (negate k))
+  unfolding negate conditionName conditionNames
+  shows-turned first i k = record {
+    after-cmp = λ p f m a.
+        rw (cmp-is first i p (negate k) f m)
+        (shown-cmp h s (bodyOf h s p) k (negate k) true (by-opposite "e ne b ae be a l ge le g" refl k a)
+        (rule .printed .after-cmp (negate k) ∙ among-negated "e ne b ae be a l ge le g" tt k ∙ a));
+    after-test = λ p f m a.
+        rw (test-is first i p (negate k) f m)
+        (shown-test h s (bodyOf h s p) k (negate k) true (by-opposite "e ne s ns l ge le g" refl k a)
+        (rule .printed .after-test (negate k) ∙ among-negated "e ne s ns l ge le g" tt k ∙ a));
   }

@@ -1,6 +1,6 @@
 -- How long a condition and the arguments of a call can be, in tokens and in bytes.
 -- Each part has a bound, and those of tokens behind each other are added.
-use mathlib.Core.Bool.{Bool, true, false}
+use mathlib.Core.Bool.{Bool, true, false, _&&_}
 use mathlib.Core.List.{List, [], _∷_, _++_}
 use Prim.Native.Nat.{ℕ, zero, suc, _+_, _-_, _*_, _^_, _≤_}
 use native.Mathlib.Omega.{arith}
@@ -9,7 +9,7 @@ use lib.IntN.{natAbs}
 use lib.ListN.{length, take, length-take}
 use Rattle.lists.specs.Every.{every-at}
 use Rattle.tokens.specs.Token.{Token, punct, keyword}
-use Rattle.x86.specs.Conditions.{Relation, none, relations, operatorText, relationAfterCmp, relationAfterTest, relationAfterOther, printsUnsigned}
+use Rattle.x86.specs.Conditions.{conditionNames, conditionName, Relation, none, relations, operatorText, relationAfterCmp, relationAfterTest, relationAfterOther, printsUnsigned}
 use Rattle.x86.specs.Conventions.{microsoft, systemV, argumentRegisters, argumentCount}
 use Rattle.record.specs.declared.header.Header.{Header}
 use Rattle.record.specs.Layout.{bodiesAt, bodiesOf}
@@ -17,11 +17,11 @@ use Rattle.record.specs.Body.{mnemonicOf}
 use Rattle.operand.specs.Alike.{alike}
 use Rattle.operand.specs.Memory.{number}
 use Rattle.operand.specs.Operand.{opTokens}
-use Rattle.operand.specs.Bounds.{AllBytes, bytes-drop, pick-le, upTo, Within, nothing, more, one, both, either, wrapped, register-within, number-within, word-within, op-within}
+use Rattle.operand.specs.Bounds.{AllBytes, bytes-drop, pick-le, upTo, Within, nothing, more, one, both, either, wrapped, register-within, number-within, op-within}
 use Rattle.x86.specs.Mnemonics.{push, call}
 use Rattle.record.specs.declared.search.Found.{Found}
 use Rattle.record.specs.declared.search.Found.the-variants.{At, Nothing}
-use Rattle.expressions.specs.Condition.{operator, relationOr, unsignedIf, flagWriter, bodyOf, afterCmp, tested, afterWriter, conditionAfter, conditionTokens}
+use Rattle.expressions.specs.Condition.{operator, flagsWord, relationOr, unsignedIf, flagWriter, bodyOf, afterCmp, tested, afterWriter, conditionAfter, conditionTokens}
 use Rattle.expressions.specs.Arguments.{commaIf, listed, registerArguments, isUnskipped, pushesBack, pushed, argumentTokens}
 
 -- tokens behind a comma, or none
@@ -34,8 +34,15 @@ operator-within : (r : ℕ) → Within 1 4 (operator r ∷ [])
 unfolding operatorText
 operator-within r = one (operator r) 4 (leb→le _ _ (every-at (λ (q : Relation). upTo 4 (q .text)) none tt relations r tt))
 
-relation-within : (n m cc r : ℕ) (ts : List Token) → 1 ≤ n → 30 ≤ m → Within n m ts → Within n m (relationOr cc r ts)
-relation-within n m cc r ts a b p = either (Within n m) (ltb r 6) _ _ p (more n m (word-within (75 + cc)) a b)
+-- a name has at most 2 letters
+flags-within : (cc : ℕ) → Within 1 10 (flagsWord cc ∷ [])
+unfolding conditionName conditionNames
+flags-within cc =
+    let name : length (conditionName cc) ≤ 2 = leb→le _ _ (every-at (upTo 2) [] tt conditionNames cc tt) in
+    either (λ (t : Token). Within 1 10 (t ∷ [])) (ltb 0 cc && ltb cc 17) _ _ (one _ 10 (omega (arith, name))) (one _ 10 (omega arith))
+
+relation-within : (n m cc r : ℕ) (ts : List Token) → 1 ≤ n → 10 ≤ m → Within n m ts → Within n m (relationOr cc r ts)
+relation-within n m cc r ts a b p = either (Within n m) (ltb r 6) _ _ p (more n m (flags-within cc) a b)
 
 unsigned-within : {n m : ℕ} {ts : List Token} (b : Bool) → Within n m ts → Within (1 + n) (10 + m) (unsignedIf b ts)
 unsigned-within true p = both (one (keyword "(unsigned)") 10 (omega arith)) p
@@ -101,7 +108,7 @@ module _ (h : Header) (s : List ℕ) (ss : AllBytes s) (shift : natAbs (h .shift
     where
       go : (w : Found) → Within 40 1002 (conditionAfter h s w cc)
       go (At p) = after-writer p cc
-      go Nothing = more 40 1002 (word-within (75 + cc)) (omega arith) (omega arith)
+      go Nothing = more 40 1002 (flags-within cc) (omega arith) (omega arith)
 
   -- at most 500 pushes stand before a call
   pushed-within : (comma : Bool) (is : List ℕ) → Within (15 * length is) (489 * length is) (pushed h s comma is)

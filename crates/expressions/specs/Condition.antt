@@ -1,13 +1,13 @@
 -- `condition`: what a condition of an instruction prints. "The nearest flag writer before the tested instruction, in the same block."
-use Prim.Native.Nat.{ℕ, _+_, _-_}
-use mathlib.Core.Bool.{Bool, true, false}
+use Prim.Native.Nat.{ℕ, _-_}
+use mathlib.Core.Bool.{Bool, true, false, _&&_}
 use mathlib.Core.List.{List, [], _∷_, _++_}
 use lib.Dec.{eqb, ltb}
+use Rattle.lists.specs.Ascii.{ascii}
 use Rattle.lists.specs.Choice.{pick}
 use Rattle.tokens.specs.Token.{Token, token, punct, keyword}
-use Rattle.tokens.specs.Words.{wordToken}
 use Rattle.x86.specs.Mnemonics.{cmp, test, writesFlags}
-use Rattle.x86.specs.Conditions.{operatorText, relationAfterCmp, relationAfterTest, relationAfterOther, printsUnsigned}
+use Rattle.x86.specs.Conditions.{conditionName, operatorText, relationAfterCmp, relationAfterTest, relationAfterOther, printsUnsigned}
 use Rattle.record.specs.declared.header.Header.{Header}
 use Rattle.record.specs.Layout.{bodiesOf}
 use Rattle.record.specs.Body.{bodyAt, mnemonicOf}
@@ -23,9 +23,9 @@ use Rattle.record.specs.declared.search.Found.the-variants.{At, Nothing}
 abbrev pub operator : ℕ → Token
 operator r = token 6 (operatorText r)
 
--- `__flags_` and the condition's name
+-- `__flags_` and the condition's name; a number that names no condition, which question 8 lets no line print, gives an empty text
 abbrev pub flagsWord : ℕ → Token
-flagsWord cc = wordToken (75 + cc)
+flagsWord cc = pick (ltb 0 cc && ltb cc 17) (token 3 (ascii "__flags_" ++ conditionName cc)) (token 0 [])
 
 -- a relation is printed if the table has one for the condition, else the `__flags_` word
 abbrev pub relationOr : ℕ → ℕ → List Token → List Token

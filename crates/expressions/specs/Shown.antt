@@ -1,8 +1,8 @@
--- What the tokens of a condition say where CMP or TEST is the nearest flag writer: a relation of the operands that holds exactly when the
--- condition holds of Intel's flags, and of the negated condition when it does not.
-use Prim.Native.Nat.{ℕ, _-_, _^_, _≤_, _<_}
+-- What the tokens that show a condition say where CMP or TEST is the nearest flag writer: a relation of the operands that holds exactly
+-- when the condition holds of Intel's flags; where the condition is shown turned over, exactly when it does not.
+use Prim.Native.Nat.{ℕ, _-_, _^_, _<_}
 use mathlib.Core.Path.{_≡_}
-use mathlib.Core.Bool.{true, false, not}
+use mathlib.Core.Bool.{Bool, true, false, not}
 use mathlib.Core.List.{List, [], _∷_, _++_}
 use lib.Bits.{bitAnd}
 use lib.IntN.{pos}
@@ -11,8 +11,8 @@ use Rattle.tokens.specs.Token.{Token}
 use Rattle.tokens.specs.Listing.{textOf}
 use Rattle.x86.specs.Words.{isOneOf}
 use Rattle.x86.specs.Mnemonics as mnemonic
-use Rattle.x86.specs.Conditions.{related, among, negate}
-use Rattle.x86.specs.Flags.{Flags, signed, cmp, test, conditionHolds}
+use Rattle.x86.specs.Conditions.{related, among}
+use Rattle.x86.specs.Flags.{signed, cmp, test, conditionHolds}
 use Rattle.x86.specs.FlagRule.{readFor}
 use Rattle.record.specs.declared.header.Header.{Header}
 use Rattle.record.specs.declared.search.Found.the-variants.{At}
@@ -21,12 +21,17 @@ use Rattle.record.specs.Body.{mnemonicOf}
 use Rattle.operand.specs.Memory.{number}
 use Rattle.operand.specs.Operand.{opTokens}
 use Rattle.operand.specs.Alike.{alike}
-use Rattle.expressions.specs.Condition.{operator, unsignedIf, flagWriter, bodyOf, tested, conditionTokens}
+use Rattle.expressions.specs.Condition.{operator, unsignedIf, flagWriter, bodyOf, tested}
 
 -- a reading of operands as numbers of w bits, by their texts: "operands that print alike are equal"
 pub record Reading (w : ℕ) : Type 0 where
   pub value : List ℕ → ℕ
   pub fits : (t : List ℕ) → value t < 2 ^ w
+
+-- whether a condition holds, or where it is turned over whether it does not
+abbrev pub turnedIf : Bool → Bool → Bool
+turnedIf true holds = not holds
+turnedIf false holds = holds
 
 module _ (h : Header) (s : List ℕ) where
   -- operand i of a body, so read
@@ -39,25 +44,24 @@ module _ (h : Header) (s : List ℕ) where
 
   -- "after CMP, for e ne b ae be a l ge le g, the printed relation of the operands at that moment, read at their width, signed for
   -- l ge le g and unsigned for b ae be a, holds exactly when the condition does"
-  pub record AfterCmp (b : List ℕ) (k : ℕ) (ts : List Token) : Type 0 where
+  pub record AfterCmp (b : List ℕ) (k : ℕ) (turned : Bool) (ts : List Token) : Type 0 where
     pub relation : ℕ
     pub tokens : ts ≡ unsignedIf (among k "b ae be a") (opTokens h s b 0) ++ (operator relation ∷ opTokens h s b 1)
     pub right : (w : ℕ) → isOneOf w (8 ∷ 16 ∷ 32 ∷ 64 ∷ []) ≡ true → (r : Reading w)
-        → related relation (readFor k w (valueOf r b 0)) (readFor k w (valueOf r b 1)) ≡ conditionHolds k (cmp w (valueOf r b 0) (valueOf r b 1))
+        → related relation (readFor k w (valueOf r b 0)) (readFor k w (valueOf r b 1))
+        ≡ turnedIf turned (conditionHolds k (cmp w (valueOf r b 0) (valueOf r b 1)))
 
   -- "after TEST the same, read signed, for e ne s ns l ge le g, if operands that print alike are equal"
-  pub record AfterTest (b : List ℕ) (k : ℕ) (ts : List Token) : Type 0 where
+  pub record AfterTest (b : List ℕ) (k : ℕ) (turned : Bool) (ts : List Token) : Type 0 where
     pub relation : ℕ
     pub tokens : ts ≡ tested h s b ++ (operator relation ∷ number false 0 ∷ [])
     pub right : (w : ℕ) → isOneOf w (8 ∷ 16 ∷ 32 ∷ 64 ∷ []) ≡ true → (r : Reading w)
-        → related relation (signed w (testedOf r b)) (pos 0) ≡ conditionHolds k (test w (valueOf r b 0) (valueOf r b 1))
+        → related relation (signed w (testedOf r b)) (pos 0) ≡ turnedIf turned (conditionHolds k (test w (valueOf r b 0) (valueOf r b 1)))
 
-  -- of every condition k tested by instruction i of a block whose first instruction is `first`, where instruction p is the nearest
-  -- flag writer before it
-  pub record ConditionsShown : Type 0 where
-    pub after-cmp : (first i p k : ℕ) → flagWriter (bodiesOf h s) first (i - first) ≡ At p → mnemonicOf (bodyOf h s p) ≡ mnemonic.cmp
-        → among k "e ne b ae be a l ge le g" ≡ true → AfterCmp (bodyOf h s p) k (conditionTokens h s first i k)
-    pub after-test : (first i p k : ℕ) → flagWriter (bodiesOf h s) first (i - first) ≡ At p → mnemonicOf (bodyOf h s p) ≡ mnemonic.test
-        → among k "e ne s ns l ge le g" ≡ true → AfterTest (bodyOf h s p) k (conditionTokens h s first i k)
-    -- "`negate` turns conditions 1 to 16 over on every flag setting"
-    pub turned : (k : ℕ) → 1 ≤ k → k ≤ 16 → (f : Flags) → conditionHolds (negate k) f ≡ not (conditionHolds k f)
+  -- tokens that show condition k, or turned over, as tested by instruction i of a block whose first instruction is `first`: by the
+  -- nearest flag writer before it, instruction p
+  pub record Shows (first i k : ℕ) (turned : Bool) (ts : List Token) : Type 0 where
+    pub after-cmp : (p : ℕ) → flagWriter (bodiesOf h s) first (i - first) ≡ At p → mnemonicOf (bodyOf h s p) ≡ mnemonic.cmp
+        → among k "e ne b ae be a l ge le g" ≡ true → AfterCmp (bodyOf h s p) k turned ts
+    pub after-test : (p : ℕ) → flagWriter (bodiesOf h s) first (i - first) ≡ At p → mnemonicOf (bodyOf h s p) ≡ mnemonic.test
+        → among k "e ne s ns l ge le g" ≡ true → AfterTest (bodyOf h s p) k turned ts

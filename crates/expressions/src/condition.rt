@@ -58,7 +58,7 @@ pub fn flag_writer(isa: &[u8], bodies: &[u8], first: u16, i: u16) -> Found
     Found::Nothing
 }
 
-// `__flags_` and the condition's name; past the last word an empty text.
+// `__flags_` and the condition's name; for a number that names no condition an empty text.
 fn push_flags(
     text: &mut [u8],
     ends: &mut [u32],
@@ -71,7 +71,7 @@ fn push_flags(
     ensures { λ r. ⌜ sheet (now (text .exit)) (now (ends .exit)) (now (kinds .exit)) r
         ≡ pushes (sheet (now (text .entry)) (now (ends .entry)) (now (kinds .entry)) pen) (flagsWord cc ∷ []) ⌝ }
 {
-    if cc < 27 {
+    if (0 < cc) & (cc < 17) {
         return push_word(text, ends, kinds, pen, words, 75 + cc);
     }
     push_word(text, ends, kinds, pen, words, 255)

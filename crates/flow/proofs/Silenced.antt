@@ -1,7 +1,7 @@
 -- The silent list says of a record's instructions what the rows say, where a direct jmp has no condition, as question 8 sees to.
 -- By whether the instruction is its block's last, by how the block ends, and by the context.
 use Prim.Native.Nat.{ℕ, zero, suc, _+_, _-_, _<_, _≤_}
-use mathlib.Core.Bool.{Bool, true, false, not, _&&_, _||_, or-false, or-true, and-false, Bool·not-not, Bool·beq}
+use mathlib.Core.Bool.{Bool, true, false, not, _&&_, _||_, or-false, or-true, and-false, Bool·not-not, Bool·beq, true≢false, false≢true}
 use mathlib.Core.List.{List, [], _∷_}
 use mathlib.Core.Path.{_≡_, refl, sym, ap, _∙_}
 use native.Mathlib.Decide.{ℕ-discrete}
@@ -37,16 +37,13 @@ use Rattle.flow.proofs.Totals.{instructions-within}
 abbrev ending : Bool → Bool → Bool → ℕ
 ending z j n = pick z (pick j 3 0) (pick n 2 1)
 
-different : {A : Type 0} → true ≡ false → A
-different e = absurd (let z : _≡_ {A = ℕ} 0 1 = cc in omega arith)
-
 -- a last instruction in a range being written: x is skip-marked, noise or one of the seven; g and r say that a jmp goes to the next block
 range-rule : (z j n x g r : Bool) → (j && not z) ≡ false → (ending z j n ≡ 3 → g ≡ r)
     → ((j && (not true || false || g)) || (not (true && ((not z && n) || false || (j && not false))) && x))
     ≡ pick (eqb (ending z j n) 2) false (pick (eqb (ending z j n) 3) r (x || j))
 range-rule true true n x g r p q = or-false g ∙ q refl
 range-rule true false n x g r p q = sym (or-false x)
-range-rule false true n x g r p q = different p
+range-rule false true n x g r p q = absurd (true≢false p)
 range-rule false false true x g r p q = refl
 range-rule false false false x g r p q = sym (or-false x)
 
@@ -56,7 +53,7 @@ body-rule : (z j n x : Bool) → (j && not z) ≡ false
     ≡ pick (eqb (ending z j n) 2) false (pick (eqb (ending z j n) 3) true (x || j))
 body-rule true true n x p = refl
 body-rule true false n x p = sym (or-false x)
-body-rule false true n x p = different p
+body-rule false true n x p = absurd (true≢false p)
 body-rule false false true x p = refl
 body-rule false false false x p = sym (or-false x)
 
@@ -171,7 +168,7 @@ jmp-rule m c near ok = by (eqb m jmp) refl
         none true q = and-false near
         none false q =
             let j : conditionOk jmp c ≡ true = ap (λ (x : ℕ). conditionOk x c) (sym (eqb-true m jmp e)) ∙ ok in
-            different (sym (rw q at (both-yes (leb jmp 45 && leb c 16) (Bool·beq (setsByCondition jmp) (not (eqb c 0))) j .1)))
+            absurd (false≢true (rw q at (both-yes (leb jmp 45 && leb c 16) (Bool·beq (setsByCondition jmp) (not (eqb c 0))) j .1)))
 
 pub plain-jmps : (s : List ℕ) (from to : ℕ) → firstNo s from to ≡ 0 → PlainJmps (headerOf s) s
 unfolding bodiesAsked bodiesOk bodyOk fixedOk

@@ -3,5 +3,5 @@ pub mod Codes
 pub mod Print
 pub mod Lines
 pub mod Bounds
-pub mod ArgumentLaw
+pub mod Shown
 pub mod Cases

@@ -2,27 +2,31 @@
 -- With a number every list is as it was; with 0 the lists begin with the defined listing, of which demand 3 is proved.
 use mathlib.Core.Path.{_≡_, refl, sym, ap, _∙_}
 use mathlib.Core.Bool.{Bool, true, false, _&&_}
-use mathlib.Core.List.{List}
+use mathlib.Core.List.{List, map}
 use Prim.Native.Nat.{ℕ, zero, suc, _≤_}
 use native.Mathlib.Nat.{le-refl}
 use native.Mathlib.Omega.{arith}
-use lib.ListN.{length, take, drop}
+use lib.ListN.{length, take, drop, length-map}
 use lib.Seq.{take-append-le, take-all}
 use lib.Dec.{leb}
 use Rattle.record.specs.Header.{headerOf, headerFits, fieldsOk, limitsOk}
 use Rattle.record.specs.Layout.{lengthOk}
 use Rattle.record.specs.Asked.{ask, orElse, sizesNo, marksAsked, startsAsked, edgeKindsAsked, bodiesAsked, atlasAsked, spansAsked, blocksNo, contentsNo, rangeNo, firstNo}
 use Rattle.record.proofs.AskedLaws.{later}
-use Rattle.tokens.specs.Listing.{Listing}
-use Rattle.pseudo.specs.Listed.{recordListing, recordAddresses, recordMarks}
+use Rattle.tokens.specs.Token.{Token}
+use Rattle.tokens.specs.Listing.{join, Listing, listing}
+use Rattle.pseudo.specs.Listed.{lineAddress, recordLines, recordListing, recordAddresses, recordMarks}
+use Rattle.flow.specs.Planned.{recordPlan}
+use Rattle.line.specs.Shown.{ConditionsShown, CallsShown}
 use Rattle.pseudo.specs.Called.{numberOf, roomNo, answerFor, over, Leaves, roomsOf, sizes, callNo, Called}
 use Rattle.pseudo.specs.Demand.{LinesDemand3}
-use Rattle.pseudo.specs.Promise.{Lists, listsOf, valuesOf, Promise}
+use Rattle.pseudo.specs.Promise.{Lists, listsOf, valuesOf, held, Promise}
 use Rattle.pseudo.specs.declared.rooms.Sizes.{Sizes}
 use Rattle.pseudo.specs.declared.rooms.Rooms.{Rooms}
 use Rattle.pseudo.specs.declared.call.Answer.{Answer}
-use Rattle.expressions.proofs.Shows.{conditions-shown}
-use Rattle.line.proofs.ArgumentLaw.{argument-law}
+use Rattle.tokens.proofs.Lines.{lines-back}
+use Rattle.line.proofs.Shows.{conditions-shown, calls-shown}
+use Rattle.pseudo.proofs.Answers.{printed-length}
 use Rattle.pseudo.proofs.Demand.{listing-demand3}
 
 -- ---- the numbers
@@ -81,10 +85,20 @@ read-back n new old l e p =
 same : {x x′ e e′ k k′ a a′ m m′ l l′ : List ℕ} → x′ ≡ x → e′ ≡ e → k′ ≡ k → a′ ≡ a → m′ ≡ m → l′ ≡ l → listsOf x′ e′ k′ a′ m′ l′ ≡ listsOf x e k a m l
 same p q r s t u = rw (p, q, r, s, t, u)
 
+-- a line of tokens for each address
+lines-each : (s : List ℕ) (from to : ℕ) → length (recordAddresses (headerOf s) s from to) ≡ length (recordLines (headerOf s) s from to)
+unfolding recordLines
+lines-each s from to =
+    let h = headerOf s in
+    length-map (recordPlan h s from to) (lineAddress h s) ∙ sym (printed-length h s _ 0 (recordPlan h s from to))
+
 module _ (s : List ℕ) (from to : ℕ) (b a : Lists) (r : Answer)
     (c : Called s from to (b .text) (a .text) (b .ends) (a .ends) (b .kinds) (a .kinds) (b .addresses) (a .addresses) (b .marks) (a .marks) (b .lines) (a .lines) r) where
   abbrev rooms : Rooms
   rooms = roomsOf (b .text) (b .ends) (b .kinds) (b .addresses) (b .marks) (b .lines)
+
+  abbrev ls : List (List Token)
+  ls = recordLines (headerOf s) s from to
 
   abbrev t : Listing
   t = recordListing (headerOf s) s from to
@@ -118,6 +132,23 @@ module _ (s : List ℕ) (from to : ℕ) (b a : Lists) (r : Answer)
         read-back (length va) (t .lines) (b .lines) (a .lines) (d .ended) (p .lines),
       ) d
 
+  -- the lists hold the lines of the defined listing
+  lines-held : (n : ℕ) → Left n → n ≡ 0 → held a r ≡ map join ls
+  unfolding listing
+  lines-held (suc n) p z = absurd (omega arith)
+  lines-held zero p z =
+      let size : valuesOf r .lines ≡ length ls = ap (λ (g : Answer). valuesOf g .lines) (p .answer) ∙ lines-each s from to in
+      rw (size, p .text, p .ends, p .kinds, p .lines)
+      (lines-back ls (drop (length (t .text)) (b .text)) (drop (length (t .ends)) (b .ends)) (drop (length (t .kinds)) (b .kinds)) (drop (length (t .lines)) (b .lines)))
+
+  relations-held : held a r ≡ map join ls → ConditionsShown (headerOf s) s (recordPlan (headerOf s) s from to) (held a r)
+  unfolding recordLines
+  relations-held e = rw e (conditions-shown (headerOf s) s _ (recordPlan (headerOf s) s from to))
+
+  arguments-held : held a r ≡ map join ls → headerOf s .bits ≡ 64 → CallsShown (headerOf s) s (recordPlan (headerOf s) s from to) (held a r)
+  unfolding recordLines
+  arguments-held e n = rw e (calls-shown (headerOf s) s n _ (recordPlan (headerOf s) s from to))
+
   accepted : callNo s from to rooms ≡ 0 → firstNo s from to ≡ 0
   unfolding callNo
   accepted e = later (firstNo s from to) (roomNo (sizes s from to) rooms) e .0
@@ -127,7 +158,7 @@ module _ (s : List ℕ) (from to : ℕ) (b a : Lists) (r : Answer)
     called = c;
     number = rw number (call-within s from to rooms);
     refused = λ o. refused (callNo s from to rooms) c (λ e. o (number ∙ e));
-    relations = conditions-shown (headerOf s) s;
-    arguments = argument-law (headerOf s) s;
+    relations = λ e. relations-held (lines-held (callNo s from to rooms) c (sym number ∙ e));
+    arguments = λ e. arguments-held (lines-held (callNo s from to rooms) c (sym number ∙ e));
     demand3 = λ e. listed (callNo s from to rooms) c (sym number ∙ e) (accepted (sym number ∙ e));
   }

@@ -3,9 +3,11 @@ use Prim.Native.Nat.{ℕ, _≤_}
 use mathlib.Core.List.{List}
 use mathlib.Core.Path.{_≡_}
 use lib.ListN.{take}
+use Rattle.tokens.specs.Token.{Token}
+use Rattle.tokens.specs.Lines.{linesIn}
 use Rattle.record.specs.Header.{headerOf}
-use Rattle.expressions.specs.Shown.{ConditionsShown}
-use Rattle.line.specs.ArgumentLaw.{ArgumentLaw}
+use Rattle.flow.specs.Planned.{recordPlan}
+use Rattle.line.specs.Shown.{ConditionsShown, CallsShown}
 use Rattle.pseudo.specs.Called.{numberOf, Called}
 use Rattle.pseudo.specs.Demand.{LinesDemand3}
 use Rattle.pseudo.specs.declared.rooms.Sizes.{Sizes}
@@ -29,6 +31,10 @@ abbrev pub valuesOf : Answer → Sizes
 valuesOf (Listed z) = z
 valuesOf (No n) = record { text = 0; tokens = 0; lines = 0 }
 
+-- the lines of tokens that the lists hold
+abbrev pub held : Lists → Answer → List (List Token)
+held a r = linesIn (a .text) (a .ends) (a .kinds) (a .lines) (valuesOf r .lines)
+
 pub record Promise (s : List ℕ) (from to : ℕ) (b a : Lists) (r : Answer) : Type 0 where
   -- the number is that of the first question that gets a no, the sizes are the defined listing's, and each list begins with it and is
   -- unchanged past it
@@ -38,10 +44,10 @@ pub record Promise (s : List ℕ) (from to : ℕ) (b a : Lists) (r : Answer) : T
   pub number : numberOf r ≤ 14
   -- "A number comes with all sizes zero, and every lent list is then unchanged."
   pub refused : (numberOf r ≡ 0 → ⊥) → (valuesOf r ≡ record { text = 0; tokens = 0; lines = 0 }) × (a ≡ b)
-  -- "The relation printed after CMP or TEST is proved against Intel's flag rules": of the tokens of every condition that a line prints
-  pub relations : ConditionsShown (headerOf s) s
-  -- "and the argument registers against the two calling conventions": of the tokens of every line, by the lines before it
-  pub arguments : ArgumentLaw (headerOf s) s
+  -- "The relation printed after CMP or TEST is proved against Intel's flag rules": of the tokens of every line that shows a condition
+  pub relations : numberOf r ≡ 0 → ConditionsShown (headerOf s) s (recordPlan (headerOf s) s from to) (held a r)
+  -- "and the argument registers against the two calling conventions": of the tokens of every line that ends in a call, by the lines before it
+  pub arguments : numberOf r ≡ 0 → headerOf s .bits ≡ 64 → CallsShown (headerOf s) s (recordPlan (headerOf s) s from to) (held a r)
   -- demand 3, of the lines that the lists hold
   pub demand3 : numberOf r ≡ 0
       → LinesDemand3 s from to (take (valuesOf r .lines) (a .addresses)) (take (valuesOf r .lines) (a .marks)) (take (valuesOf r .lines) (a .lines))

@@ -1,8 +1,10 @@
 -- The answer after stages: the first number that is not 0, or yes.
 -- By whether the stage before has a number.
-use mathlib.Core.Path.{_≡_, refl}
+use mathlib.Core.Path.{_≡_, refl, ap, _∙_}
+use mathlib.Core.List.{List}
 use Prim.Native.Nat.{ℕ, zero, suc}
-use Rattle.record.specs.Asked.{orElse, numberOf, answerOf}
+use Rattle.record.specs.Asked.{orElse, firstNo, numberOf, answerOf, Answered}
+use Rattle.record.specs.Header.{headerOf}
 use Rattle.record.specs.declared.header.Header.{Header}
 use Rattle.record.specs.declared.asked.Asked.{Asked}
 use Rattle.record.specs.declared.asked.Asked.the-variants.{No}
@@ -20,7 +22,10 @@ pub ends : (n : ℕ) (h : Header) → (n ≡ 0 → ⊥) → No n ≡ answerOf n 
 ends zero h p = absurd (p refl)
 ends (suc n) h p = refl
 
--- an answer has its number
-pub number-is : (n : ℕ) (h : Header) → numberOf (answerOf n h) ≡ n
+number-is : (n : ℕ) (h : Header) → numberOf (answerOf n h) ≡ n
 number-is zero h = refl
 number-is (suc n) h = refl
+
+-- an answer has its number
+pub answered : (s : List ℕ) (from to : ℕ) (r : Asked) → r ≡ answerOf (firstNo s from to) (headerOf s) → Answered s from to r
+answered s from to r e = record { number = ap numberOf e ∙ number-is (firstNo s from to) (headerOf s); answer = e }

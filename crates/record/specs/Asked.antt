@@ -2,6 +2,7 @@
 use Prim.Native.Nat.{ℕ, zero, suc}
 use mathlib.Core.List.{List}
 use mathlib.Core.Bool.{Bool, true, false, _&&_}
+use mathlib.Core.Path.{_≡_}
 use lib.Dec.{leb}
 use Rattle.x86.specs.Registers.{registerExists}
 use Rattle.record.specs.Header.{headerOf, headerFits, fieldsOk, limitsOk}
@@ -84,3 +85,8 @@ numberOf (No n) = n
 abbrev pub answerOf : ℕ → Header → Asked
 answerOf zero h = Yes h
 answerOf (suc n) h = No (suc n)
+
+-- What `record` answers: the number of the first question that gets a no, or 0 and the record's header.
+pub record Answered (s : List ℕ) (from to : ℕ) (r : Asked) : Type 0 where
+  pub number : numberOf r ≡ firstNo s from to
+  pub answer : r ≡ answerOf (firstNo s from to) (headerOf s)

@@ -20,8 +20,7 @@ use crate::layout::texts_at;
 use lists::reads::from;
 use x86::registers::register_exists;
 ghost use mathlib.Core.Path.{_≡_};
-ghost use Rattle.record.specs.Header.{headerOf};
-ghost use Rattle.record.specs.Asked.{sizesNo, marksAsked, startsAsked, edgeKindsAsked, bodiesAsked, atlasAsked, spansAsked, blocksNo, contentsNo, rangeNo, firstNo, answerOf};
+ghost use Rattle.record.specs.Asked.{sizesNo, marksAsked, startsAsked, edgeKindsAsked, bodiesAsked, atlasAsked, spansAsked, blocksNo, contentsNo, rangeNo, Answered};
 
 // The answer: the header of a record that may be listed, or the number of the question that got a no.
 pub enum Asked {
@@ -137,7 +136,7 @@ pub fn range_no(h: Header, from: usize, to: usize) -> u8
 
 // The questions 1 to 11 of a record and a range of its blocks. Nothing is demanded of the caller.
 pub fn record(bytes: &[u8], from: usize, to: usize) -> Asked
-    ensures { λ r. ⌜ r ≡ answerOf (firstNo (now (bytes .entry)) from to) (headerOf (now (bytes .entry))) ⌝ }
+    ensures { λ r. ⌜ Answered (now (bytes .entry)) from to r ⌝ }
 {
     let sizes = sizes_no(bytes);
     if sizes != 0 {

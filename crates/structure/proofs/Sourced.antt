@@ -2,7 +2,7 @@
 -- Each note is a choice by a test, so that notes one after another are the definitions' choices; no block before a first source
 -- or behind a last one is a source, and a part whose places are not exposed is entered only at its first.
 use mathlib.Core.Path.{_≡_, refl, sym, ap, _∙_}
-use mathlib.Core.Bool.{Bool, true, false, not, _&&_, _||_, and-false, and-true, or-true}
+use mathlib.Core.Bool.{Bool, true, false, not, _&&_, _||_, and-false, and-true, or-true, false≢true}
 use mathlib.Core.List.{List}
 use Prim.Native.Nat.{ℕ, zero, suc, _+_, _-_, _≤_, _<_}
 use native.Mathlib.Decide.{ℕ-discrete, decLe}
@@ -16,7 +16,6 @@ use Rattle.lists.specs.Below.{any-found, any-more, none-at, none-below, any-giv
 use Rattle.lists.specs.Every.{neither}
 use Rattle.structure.specs.Graph.{firstEdgeIn, edgesIn, edgeTo, edgeKind, goesTo, trueEdgeTo, hasEdge, hasCondition, closesLoop, outside, enters, jumpTo, outsideJump}
 use Rattle.record.specs.Search.{lastFrom}
-use Rattle.structure.proofs.Within.{false-true}
 use Rattle.structure.specs.Sources.{firstSource, lastSource, Entries, arrives, isSource, searchStart, searchEnd, exposed, anyExposed, Ends, Sources}
 use Rattle.structure.proofs.Found.{last-behind}
 
@@ -55,7 +54,7 @@ module _ (edges : List ℕ) (loops : Bool) (e x kind : ℕ) (l : List ℕ) (k : 
   target-counts true h t = let s : eqb (edgeKind edges e) 1 ≡ true = ap (λ (y : ℕ). eqb y 1) (sym k) ∙ h in rw s (sym (and-true (eqb (edgeTo edges e) t)))
 
   target-not : (b : Bool) → (not b || eqb kind 1) ≡ false → (t : ℕ) → arrives edges b t e ≡ false
-  target-not false h t = false-true (sym h)
+  target-not false h t = absurd (false≢true (sym h))
   target-not true h t = let s : eqb (edgeKind edges e) 1 ≡ false = ap (λ (y : ℕ). eqb y 1) (sym k) ∙ h in rw s (and-false (eqb (edgeTo edges e) t))
 
   pub noted : (at : ℕ) (l′ : List ℕ) → at ≡ edgeTo edges e → l′ ≡ set l at x → (not loops || eqb kind 1) ≡ true → Entries (λ t. pick (arrives edges loops t e) x) l l′
@@ -89,7 +88,7 @@ module _ (blocks edges : List ℕ) (loops : Bool) (k x : ℕ) (l l′ : List ℕ
 
   source-not : (b : Bool) → (not b || c) ≡ false → (t : ℕ) → isSource blocks edges b t k ≡ false
   unfolding closesLoop
-  source-not false h t = false-true (sym h)
+  source-not false h t = absurd (false≢true (sym h))
   source-not true h t = rw (← q, h) (and-false (hasEdge blocks (trueEdgeTo edges t) k))
 
   pub noted-block : (not loops || c) ≡ true → Entries (λ t. pick (hasEdge blocks (arrives edges loops t) k) x) l l′ → Entries (λ t. pick (isSource blocks edges loops t k) x) l l′
@@ -223,7 +222,7 @@ module _ (blocks edges : List ℕ) where
             | no p ↦ rw (le-ltb from t (omega arith))
             | yes p ↦ elim (decLe (suc t) to) [
               | no q ↦ rw (lt-ltb from t p, le-ltb t to (omega arith))
-              | yes q ↦ false-true (sym (h t p q) ∙ any-found (λ j. goesTo edges t (firstEdgeIn blocks k + j)) (edgesIn blocks k) m lt (eq-eqb (edgeTo edges (firstEdgeIn blocks k + m)) t e))
+              | yes q ↦ absurd (false≢true (sym (h t p q) ∙ any-found (λ j. goesTo edges t (firstEdgeIn blocks k + j)) (edgesIn blocks k) m lt (eq-eqb (edgeTo edges (firstEdgeIn blocks k + m)) t e)))
             ]
           ]
 
@@ -287,7 +286,7 @@ module _ (blocks edges : List ℕ) where
               let lt = ltb-true (getD firsts t 0) from p in
               outside-enters t (getD firsts t 0) a b (h .first-is t (omega (arith, long .0)) (omega arith)) (rw p)
           go false true p q z = behind (getD lasts t 0) refl (ltb-true to (getD lasts t 0) q)
-          go false false p q z = false-true z
+          go false false p q z = absurd (false≢true z)
 
       pub exposed-is : anyExposed firsts lasts from to ≡ anyBelow enters-from B
       unfolding anyExposed

@@ -1,7 +1,7 @@
 -- What stands at a place keeps within its range: a loop ends behind its head and before the range's end, at a block that closes it;
 -- a region ends behind the next place and not after the range, where its block's branch goes. By the tests that found it.
 use mathlib.Core.Path.{_≡_, refl, subst}
-use mathlib.Core.Bool.{Bool, true, false, not, _&&_}
+use mathlib.Core.Bool.{Bool, true, false, not, _&&_, false≢true}
 use mathlib.Core.List.{List}
 use Prim.Native.Nat.{ℕ, zero, suc, _+_, _-_, _*_, _≤_, _<_}
 use native.Mathlib.Omega.{arith}
@@ -26,9 +26,6 @@ pub pick-both : {A : Type 0} (P : A → Type 0) (b : Bool) (x y : A) → (b ≡ 
 pick-both P true x y p q = p refl
 pick-both P false x y p q = q refl
 
-pub false-true : {A : Type 0} → false ≡ true → A
-false-true e = absurd (let z : _≡_ {A = ℕ} 0 1 = cc in omega arith)
-
 -- a block that ends in any of the ways has an instruction
 ending-some : (blocks : List ℕ) (k : ℕ) → (endingIn blocks k ≡ 0 → ⊥) → 1 ≤ countIn blocks k
 unfolding endingIn
@@ -46,7 +43,7 @@ pub closes-some : (blocks edges : List ℕ) (i j : ℕ) → closesLoop blocks ed
 unfolding closesLoop
 closes-some blocks edges i j e =
     let c : hasCondition blocks j ≡ true = both-yes (hasEdge blocks (trueEdgeTo edges i) j) (hasCondition blocks j) e .1 in
-    ending-some blocks j (λ z. false-true (rw z at c))
+    ending-some blocks j (λ z. false≢true (rw z at c))
 
 -- what a search for the last one found
 abbrev FoundOk : (ℕ → Bool) → ℕ → ℕ → Found → Type 0

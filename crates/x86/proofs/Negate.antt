@@ -1,16 +1,22 @@
--- `negate` turns each of the conditions 1 to 16 over, on every setting of the flags.
--- One test that antt computes, of 16 conditions at 32 settings.
-use mathlib.Core.Path.{_≡_, subst}
-use mathlib.Core.Bool.{Bool, true, false, not, _&&_, Bool·beq}
-use Prim.Native.Nat.{ℕ, _+_, _-_, _≤_, _<_}
+-- `negate` turns each of the conditions 1 to 16 over, on every setting of the flags, and stays within sets that have each with its opposite.
+-- One test that antt computes, of 16 conditions at 32 settings; one of 17 numbers for each set.
+use mathlib.Core.Path.{_≡_, refl, sym, subst, _∙_}
+use mathlib.Core.Bool.{Bool, true, false, not, _&&_, Bool·beq, false≢true}
+use mathlib.Core.List.{[]}
+use Prim.Native.Nat.{ℕ, zero, suc, _+_, _-_, _≤_, _<_}
+use Prim.Native.String.{String}
+use native.Mathlib.Decide.{decLt, decLe}
 use native.Mathlib.Omega.{arith}
+use borrow.Author.Tests.{lt-ltb, ne-eqb}
 use lib.Dec.{T}
 use Rattle.lists.specs.Choice.{allBelow}
 use Rattle.lists.specs.Every.{both-left, both-right, beq→eq}
 use Rattle.lists.specs.Below.{below-at}
 use Rattle.x86.specs.Flags.{Flags, conditionHolds}
-use Rattle.x86.specs.Conditions.{negate}
+use Rattle.x86.specs.Conditions.{conditionNames, conditionName, among, negate}
 use Rattle.x86.specs.FlagRule.{Negates}
+use Rattle.x86.specs.Words.{wordsOf, isWordOf}
+use Rattle.x86.proofs.Past.{no-condition}
 
 -- a test at both values of a flag
 abbrev flag : (Bool → Bool) → Bool
@@ -51,3 +57,28 @@ from-zero k h f =
 
 pub negate-turns : (k : ℕ) → 1 ≤ k → k ≤ 16 → Negates k
 negate-turns k l h = let e : k - 1 + 1 ≡ k = omega arith in subst Negates e (from-zero (k - 1) (omega arith))
+
+-- a set that has with each condition its opposite
+abbrev pub closed : String → Bool
+closed names = allBelow (λ k. Bool·beq (among (negate k) names) (among k names)) 17
+
+negate-past : (k : ℕ) → 17 ≤ k → negate k ≡ k
+unfolding negate
+negate-past k h = rw (ne-eqb k 0 (omega arith), lt-ltb 16 k (omega arith))
+
+pub among-negated : (names : String) → T (closed names) → (k : ℕ) → among (negate k) names ≡ among k names
+among-negated names t k =
+    elim (decLt k 17) [
+      | yes h ↦ beq→eq (among (negate k) names) (among k names) (below-at (λ j. Bool·beq (among (negate j) names) (among j names)) 17 t k h)
+      | no h ↦ rw (negate-past k (omega arith))
+    ]
+
+-- what is named is one of the sixteen
+pub named-turns : (names : String) → isWordOf [] (wordsOf names) ≡ false → (k : ℕ) → among k names ≡ true → Negates k
+unfolding conditionName conditionNames
+named-turns names e zero a = absurd (false≢true (sym e ∙ a))
+named-turns names e (suc k) a =
+    elim (decLe k 15) [
+      | yes h ↦ negate-turns (suc k) (omega arith) (omega arith)
+      | no h ↦ absurd (false≢true (sym e ∙ (rw (no-condition (suc k) (omega arith)) at a)))
+    ]

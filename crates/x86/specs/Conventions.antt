@@ -1,24 +1,37 @@
 -- The registers that hold a call's first integer arguments, and how many of them a call prints.
 use Prim.Native.Nat.{ℕ, suc, _+_, _-_, _*_, _/_, _%_, _^_}
-use mathlib.Core.Bool.{Bool, false, _&&_, _||_}
-use mathlib.Core.List.{List, [], _∷_}
+use mathlib.Core.Bool.{Bool, true, false, _&&_, _||_}
+use mathlib.Core.List.{List, [], _∷_, map}
+use mathlib.Core.Path.{_≡_, refl}
 use lib.Bits.{bitOr}
 use lib.Dec.{eqb, leb, ltb}
 use lib.ListN.{getD}
 use Rattle.lists.specs.Choice.{pick}
-use Rattle.x86.specs.Registers.{qword}
+use Rattle.x86.specs.Registers.{qword, registerNames, registerName}
+use Rattle.x86.specs.Words.{wordsOf}
 
--- Microsoft x64: rcx rdx r8 r9
+-- the registers of Microsoft x64 and of System V AMD64, by name: "convention (0 Microsoft x64, 1 System V)"
+abbrev pub argumentNames : ℕ → List (List ℕ)
+argumentNames convention = pick (eqb convention 0) (wordsOf "rcx rdx r8 r9") (wordsOf "rdi rsi rdx rcx r8 r9")
+
+-- and by number
 abbrev pub microsoft : List ℕ
 microsoft = qword 1 ∷ qword 2 ∷ qword 8 ∷ qword 9 ∷ []
 
--- System V AMD64: rdi rsi rdx rcx r8 r9
 abbrev pub systemV : List ℕ
 systemV = qword 7 ∷ qword 6 ∷ qword 2 ∷ qword 1 ∷ qword 8 ∷ qword 9 ∷ []
 
--- "convention (0 Microsoft x64, 1 System V)"
 unfoldable pub argumentRegisters : ℕ → List ℕ
 argumentRegisters convention = pick (eqb convention 0) microsoft systemV
+
+-- the numbers are those of the names
+pub arguments-named : (convention : ℕ) → map registerName (argumentRegisters convention) ≡ argumentNames convention
+unfolding argumentRegisters registerName registerNames
+arguments-named convention = go (eqb convention 0)
+  where
+    go : (b : Bool) → map registerName (pick b microsoft systemV) ≡ pick b (wordsOf "rcx rdx r8 r9") (wordsOf "rdi rsi rdx rcx r8 r9")
+    go true = refl
+    go false = refl
 
 -- the register of argument k, none past the last
 unfoldable pub argumentRegister : ℕ → ℕ → ℕ

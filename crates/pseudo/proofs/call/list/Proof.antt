@@ -18,19 +18,19 @@ enum-known-h c = search needs
 
 cast-list-accepted : tie.Need-cast-list-accepted
 cast-list-accepted c =
-    let yes = accepted ((c .before .before .before .before .before .before .before .before .before .before .before .before .before .before .before .before .before .args) .rec .now) ((c .before .before .before .before .before .before .before .before .before .before .before .before .before .before .before .before .before .args) .from) ((c .before .before .before .before .before .before .before .before .before .before .before .before .before .before .before .before .before .args) .to) _ (sym ((c .before .before .before .before .before .before .before .h) .given .1) ∙ (c .before .before .before .before .before .before .before .before .before .«record») .ensures) in
+    let yes = accepted ((c .before .before .before .before .before .before .before .before .before .before .before .before .before .before .before .before .before .args) .rec .now) ((c .before .before .before .before .before .before .before .before .before .before .before .before .before .before .before .before .before .args) .from) ((c .before .before .before .before .before .before .before .before .before .before .before .before .before .before .before .before .before .args) .to) _ (sym ((c .before .before .before .before .before .before .before .h) .given .1) ∙ (c .before .before .before .before .before .before .before .before .before .«record») .ensures .answer) in
     record { fits = ends-small ((c .before .before .before .before .before .before .before .before .before .before .before .before .before .before .before .before .before .args) .rec .now) ((c .before .before .before .before .before .before .before .before .before .before .before .before .before .before .before .before .before .args) .from) ((c .before .before .before .before .before .before .before .before .before .before .before .before .before .before .before .before .before .args) .to) _ yes .0 }
 
 cast-list-accepted-2 : tie.Need-cast-list-accepted-2
 cast-list-accepted-2 c =
-    let yes = accepted ((c .before .before .before .before .before .before .before .before .before .before .before .before .before .before .before .before .before .args) .rec .now) ((c .before .before .before .before .before .before .before .before .before .before .before .before .before .before .before .before .before .args) .from) ((c .before .before .before .before .before .before .before .before .before .before .before .before .before .before .before .before .before .args) .to) _ (sym ((c .before .before .before .before .before .before .before .h) .given .1) ∙ (c .before .before .before .before .before .before .before .before .before .«record») .ensures) in
+    let yes = accepted ((c .before .before .before .before .before .before .before .before .before .before .before .before .before .before .before .before .before .args) .rec .now) ((c .before .before .before .before .before .before .before .before .before .before .before .before .before .before .before .before .before .args) .from) ((c .before .before .before .before .before .before .before .before .before .before .before .before .before .before .before .before .before .args) .to) _ (sym ((c .before .before .before .before .before .before .before .h) .given .1) ∙ (c .before .before .before .before .before .before .before .before .before .«record») .ensures .answer) in
     record { fits = ends-small ((c .before .before .before .before .before .before .before .before .before .before .before .before .before .before .before .before .before .args) .rec .now) ((c .before .before .before .before .before .before .before .before .before .before .before .before .before .before .before .before .before .args) .from) ((c .before .before .before .before .before .before .before .before .before .before .before .before .before .before .before .before .before .args) .to) _ yes .1 }
 
 list-accepted-requires : tie.Need-list-accepted-requires
-list-accepted-requires c κs = accepted ((c .before .before .before .before .before .before .before .before .before .before .before .before .before .before .before .before .before .args) .rec .now) ((c .before .before .before .before .before .before .before .before .before .before .before .before .before .before .before .before .before .args) .from) ((c .before .before .before .before .before .before .before .before .before .before .before .before .before .before .before .before .before .args) .to) _ (sym ((c .before .before .before .before .before .before .before .h) .given .1) ∙ (c .before .before .before .before .before .before .before .before .before .«record») .ensures)
+list-accepted-requires c κs = accepted ((c .before .before .before .before .before .before .before .before .before .before .before .before .before .before .before .before .before .args) .rec .now) ((c .before .before .before .before .before .before .before .before .before .before .before .before .before .before .before .before .before .args) .from) ((c .before .before .before .before .before .before .before .before .before .before .before .before .before .before .before .before .before .args) .to) _ (sym ((c .before .before .before .before .before .before .before .h) .given .1) ∙ (c .before .before .before .before .before .before .before .before .before .«record») .ensures .answer)
 
 returns : tie.Need-returns
-returns c = promised _ _ _ _ _ _ (called-no ((c .before .before .before .before .before .before .before .before .before .before .before .args) .rec .now) ((c .before .before .before .before .before .before .before .before .before .before .before .args) .from) ((c .before .before .before .before .before .before .before .before .before .before .before .args) .to) _ _ _ _ _ _ _ (sym ((c .before .n) .given .1) ∙ (c .before .before .before .«record») .ensures))
+returns c = promised _ _ _ _ _ _ (called-no ((c .before .before .before .before .before .before .before .before .before .before .before .args) .rec .now) ((c .before .before .before .before .before .before .before .before .before .before .before .args) .from) ((c .before .before .before .before .before .before .before .before .before .before .before .args) .to) _ _ _ _ _ _ _ (sym ((c .before .n) .given .1) ∙ (c .before .before .before .«record») .ensures .answer))
 
 same-length : tie.Need-same-length
 same-length c = search needs

@@ -5,7 +5,7 @@ use denote.Ref.{now}
 use borrow.Author.Needs.{needs}
 use Rattle.record.specs.Header.{headerOf}
 use Rattle.record.specs.Asked.{orElse, blocksNo, contentsNo, rangeNo, firstNo}
-use Rattle.record.proofs.Stages.{stops, goes-on, ends}
+use Rattle.record.proofs.Stages.{stops, goes-on, ends, answered}
 use Rattle.record.proofs.asked.record.Statement.{statement}
 use Rattle.record.proofs.asked.record.Tie as tie
 
@@ -18,7 +18,8 @@ returns c =
     let a = c .before .before .before .args in
     let h = headerOf (now (a .bytes)) in
     let s = now (a .bytes) in
-    simp (sym (c .before .sizes-no .ensures)) (stops (c .before .sizes-no .result) (orElse (blocksNo h s) (orElse (contentsNo h s) (rangeNo h (a .from) (a .to)))) h (c .if1 .taken))
+    answered _ _ _ _
+    (simp (sym (c .before .sizes-no .ensures)) (stops (c .before .sizes-no .result) (orElse (blocksNo h s) (orElse (contentsNo h s) (rangeNo h (a .from) (a .to)))) h (c .if1 .taken)))
 
 read-header-requires : tie.Need-read-header-requires
 read-header-requires c κs = search needs
@@ -33,9 +34,10 @@ returns-2 c =
     let s = now (a .bytes) in
     let h = c .before .before .read-header .result in
     let n = c .before .blocks-no .result in
-    simp (sym (c .before .before .before .before .sizes-no .ensures), sym (c .before .before .read-header .ensures), sym (c .before .blocks-no .ensures))
+    answered _ _ _ _
+    (simp (sym (c .before .before .before .before .sizes-no .ensures), sym (c .before .before .read-header .ensures), sym (c .before .blocks-no .ensures))
     (goes-on (c .before .before .before .before .sizes-no .result) (orElse n (orElse (contentsNo h s) (rangeNo h (a .from) (a .to)))) h (c .before .before .before .if1 .left)
-    (stops n (orElse (contentsNo h s) (rangeNo h (a .from) (a .to))) h (c .if2 .taken)))
+    (stops n (orElse (contentsNo h s) (rangeNo h (a .from) (a .to))) h (c .if2 .taken))))
 
 contents-no-requires : tie.Need-contents-no-requires
 contents-no-requires c κs = search needs
@@ -48,9 +50,10 @@ returns-3 c =
     let b = c .before .before .before .blocks-no .result in
     let n = c .before .contents-no .result in
     let k = rangeNo h (a .from) (a .to) in
-    simp (sym (c .before .before .before .before .before .before .sizes-no .ensures), sym (c .before .before .before .before .read-header .ensures), sym (c .before .before .before .blocks-no .ensures), sym (c .before .contents-no .ensures))
+    answered _ _ _ _
+    (simp (sym (c .before .before .before .before .before .before .sizes-no .ensures), sym (c .before .before .before .before .read-header .ensures), sym (c .before .before .before .blocks-no .ensures), sym (c .before .contents-no .ensures))
     (goes-on (c .before .before .before .before .before .before .sizes-no .result) (orElse b (orElse n k)) h (c .before .before .before .before .before .if1 .left)
-    (goes-on b (orElse n k) h (c .before .before .if2 .left) (stops n k h (c .if3 .taken))))
+    (goes-on b (orElse n k) h (c .before .before .if2 .left) (stops n k h (c .if3 .taken)))))
 
 range-no-requires : tie.Need-range-no-requires
 range-no-requires c κs = search needs
@@ -62,9 +65,10 @@ returns-4 c =
     let b = c .before .before .before .before .before .blocks-no .result in
     let n = c .before .before .before .contents-no .result in
     let k = c .before .range-no .result in
-    simp (sym (c .before .before .before .before .before .before .before .before .sizes-no .ensures), sym (c .before .before .before .before .before .before .read-header .ensures), sym (c .before .before .before .before .before .blocks-no .ensures), sym (c .before .before .before .contents-no .ensures), sym (c .before .range-no .ensures))
+    answered _ _ _ _
+    (simp (sym (c .before .before .before .before .before .before .before .before .sizes-no .ensures), sym (c .before .before .before .before .before .before .read-header .ensures), sym (c .before .before .before .before .before .blocks-no .ensures), sym (c .before .before .before .contents-no .ensures), sym (c .before .range-no .ensures))
     (goes-on (c .before .before .before .before .before .before .before .before .sizes-no .result) (orElse b (orElse n k)) h (c .before .before .before .before .before .before .before .if1 .left)
-    (goes-on b (orElse n k) h (c .before .before .before .before .if2 .left) (goes-on n k h (c .before .before .if3 .left) (ends k h (c .if4 .taken)))))
+    (goes-on b (orElse n k) h (c .before .before .before .before .if2 .left) (goes-on n k h (c .before .before .if3 .left) (ends k h (c .if4 .taken))))))
 
 returns-5 : tie.Need-returns-5
 unfolding firstNo
@@ -73,9 +77,10 @@ returns-5 c =
     let b = c .before .before .before .before .before .blocks-no .result in
     let n = c .before .before .before .contents-no .result in
     let k = c .before .range-no .result in
-    simp (sym (c .before .before .before .before .before .before .before .before .sizes-no .ensures), sym (c .before .before .before .before .before .before .read-header .ensures), sym (c .before .before .before .before .before .blocks-no .ensures), sym (c .before .before .before .contents-no .ensures), sym (c .before .range-no .ensures))
+    answered _ _ _ _
+    (simp (sym (c .before .before .before .before .before .before .before .before .sizes-no .ensures), sym (c .before .before .before .before .before .before .read-header .ensures), sym (c .before .before .before .before .before .blocks-no .ensures), sym (c .before .before .before .contents-no .ensures), sym (c .before .range-no .ensures))
     (goes-on (c .before .before .before .before .before .before .before .before .sizes-no .result) (orElse b (orElse n k)) h (c .before .before .before .before .before .before .before .if1 .left)
-    (goes-on b (orElse n k) h (c .before .before .before .before .if2 .left) (goes-on n k h (c .before .before .if3 .left) (rw (c .if4 .left)))))
+    (goes-on b (orElse n k) h (c .before .before .before .before .if2 .left) (goes-on n k h (c .before .before .if3 .left) (rw (c .if4 .left))))))
 
 pub record-spec : {M : Type 1} → statement M
 record-spec =

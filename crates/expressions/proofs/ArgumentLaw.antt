@@ -2,27 +2,22 @@
 -- A register has its bit in the mask exactly where an instruction since that call wrote it: by induction over the instructions.
 use mathlib.Core.Path.{_≡_, refl, sym, ap, _∙_, subst}
 use mathlib.Core.Bool.{Bool, true, false, _&&_, _||_, false≢true, or-false}
-use mathlib.Core.List.{List, [], _∷_, _++_}
+use mathlib.Core.List.{List, [], _∷_, map}
 use Prim.Native.Nat.{ℕ, zero, suc, _-_, _/_, _^_, _≤_, _<_}
 use native.Mathlib.Decide.{decLe, decLt, ℕ-discrete}
 use native.Mathlib.Nat.{not-suc-le-zero, le-of-suc-le-suc, zero-div}
 use native.Mathlib.Omega.{arith}
 use borrow.Author.Tests.{le-leb, lt-leb, le-ltb, eq-eqb, ne-eqb}
 use lib.Dec.{T, eqb, ltb, eqb→eq}
-use lib.ListN.{length, getD}
+use lib.ListN.{length, take, getD}
 use Rattle.lists.specs.Choice.{pick, allBelow}
 use Rattle.lists.specs.Below.{below-at}
-use Rattle.tokens.specs.Token.{Token}
-use Rattle.x86.specs.Registers.{fullRegister, qword}
-use Rattle.x86.specs.Conventions.{microsoft, systemV, argumentRegisters, argumentCount, written, anyWritten, upToLast, withWritten}
+use Rattle.x86.specs.Registers.{fullRegister, registerName, qword}
+use Rattle.x86.specs.Conventions.{microsoft, systemV, argumentNames, argumentRegisters, arguments-named, argumentCount, written, anyWritten, upToLast, withWritten}
 use Rattle.x86.proofs.Written.{now-written, still-written, up-to}
-use Rattle.record.specs.declared.header.Header.{Header}
 use Rattle.record.specs.Body.{operandCount, operandKind, operandRegister}
-use Rattle.structure.specs.Plan.{What, Line}
-use Rattle.structure.specs.Plan.What.{label-line, do-line, open-line, if-goto, while-line, close-line, goto-line, tail-call, insn-line}
-use Rattle.expressions.specs.Arguments.{registerArguments, argumentTokens, writtenAfter}
-use Rattle.line.specs.ArgumentLaw.{writes, wrote, isCall, hasCall, sinceCall, Prefix, shownAs, shown, maskBehind, ArgumentLaw}
-use Rattle.line.specs.Print.{lineTokens, maskAfter, printed}
+use Rattle.expressions.specs.Arguments.{listed, registerArguments, writtenAfter}
+use Rattle.expressions.specs.ArgumentLaw.{writes, wrote, isCall, hasCall, sinceCall, separated, UpToLast}
 
 -- a mask with one more full register
 with-qword : (m i j : ℕ) → i < 16 → j < 16 → written (withWritten m (qword i)) (qword j) ≡ (eqb (qword i) (qword j) || written m (qword j))
@@ -71,7 +66,7 @@ none-right true false h = refl
 none-right false b h = h
 
 -- the mask behind instructions
-abbrev behind : ℕ → List (List ℕ) → ℕ
+abbrev pub behind : ℕ → List (List ℕ) → ℕ
 behind m [] = m
 behind m (b ∷ bs) = behind (writtenAfter m b) bs
 
@@ -177,6 +172,18 @@ arguments-qwords convention = go (eqb convention 0)
     go true = qwords microsoft tt
     go false = qwords systemV tt
 
+-- registers by number and by name
+listed-named : (b : Bool) (rs : List ℕ) → listed b rs ≡ separated b (map registerName rs)
+unfolding listed
+listed-named b [] = refl
+listed-named true (r ∷ rs) = rw (listed-named true rs)
+listed-named false (r ∷ rs) = rw (listed-named true rs)
+
+take-named : (n : ℕ) (rs : List ℕ) → map registerName (take n rs) ≡ take n (map registerName rs)
+take-named zero rs = refl
+take-named (suc n) [] = refl
+take-named (suc n) (r ∷ rs) = ap {B = List (List ℕ)} (λ l. registerName r ∷ l) (take-named n rs)
+
 module _ (convention : ℕ) (bs : List (List ℕ)) where
   abbrev rs : List ℕ
   rs = argumentRegisters convention
@@ -190,45 +197,18 @@ module _ (convention : ℕ) (bs : List (List ℕ)) where
       let e : qword (getD rs k 0 - 80) ≡ getD rs k 0 = omega arith in
       subst (λ (r : ℕ). wrote r (sinceCall bs) ≡ written mask r) e (sym (bit-wrote bs (getD rs k 0 - 80) (omega arith)))
 
-  pub prefix : Prefix convention (sinceCall bs) (registerArguments convention mask)
+  -- the arguments printed with that mask
+  pub up-to-last-written : UpToLast convention (sinceCall bs) (registerArguments convention mask)
   unfolding registerArguments argumentCount
-  prefix = record {
+  up-to-last-written = record {
+    named = arguments-named convention;
     count = upToLast mask rs;
     ends = record {
       within = up-to mask rs;
       last-written = λ k e. register-wrote k (omega (arith, up-to mask rs)) ∙ up-to-last mask rs k e;
       none-behind = λ k g l. register-wrote k l ∙ up-to-behind mask rs k g l;
     };
-    tokens = refl;
-  }
-
-module _ (h : Header) (s : List ℕ) where
-  line-behind : (m : ℕ) (w : What) (i : ℕ) (bs : List (List ℕ)) → behind (maskAfter h s m w i) bs ≡ behind m (shownAs h s w i ++ bs)
-  line-behind m insn-line i bs = refl
-  line-behind m label-line i bs = refl
-  line-behind m do-line i bs = refl
-  line-behind m open-line i bs = refl
-  line-behind m if-goto i bs = refl
-  line-behind m while-line i bs = refl
-  line-behind m close-line i bs = refl
-  line-behind m goto-line i bs = refl
-  line-behind m tail-call i bs = refl
-
-  lines-behind : (m : ℕ) (ls : List Line) → maskBehind h s m ls ≡ behind m (shown h s ls)
-  lines-behind m [] = refl
-  lines-behind m (l ∷ ls) = lines-behind (maskAfter h s m (l .what) (l .at)) ls ∙ line-behind m (l .what) (l .at) (shown h s ls)
-
-  line-in : (range m : ℕ) (before : List Line) (l : Line) (after : List Line)
-      → printed h s range m (before ++ (l ∷ after))
-      ≡ printed h s range m before ++ (lineTokens h s range (maskBehind h s m before) l ∷ printed h s range (maskBehind h s m (before ++ (l ∷ []))) after)
-  unfolding printed
-  line-in range m [] l after = refl
-  line-in range m (b ∷ bs) l after = ap (λ (ts : List (List Token)). lineTokens h s range m b ∷ ts) (line-in range (maskAfter h s m (b .what) (b .at)) bs l after)
-
-  pub argument-law : ArgumentLaw h s
-  unfolding argumentTokens
-  argument-law = record {
-    line-printed = λ range. line-in range 0;
-    arguments = λ n range before i.
-        rw (ne-eqb (h .bits) 32 n, lines-behind 0 before) (prefix (h .convention) (shown h s before));
+    tokens =
+        listed-named false (take (upToLast mask rs) rs)
+        ∙ ap (separated false) (take-named (upToLast mask rs) rs ∙ ap (take (upToLast mask rs)) (arguments-named convention));
   }
