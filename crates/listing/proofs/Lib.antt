@@ -1,4 +1,5 @@
 pub mod Ends
 pub mod Long
 pub mod Outputs
+pub mod Prints
 pub mod Suffice

@@ -53,6 +53,14 @@ long-asked false l z h = refl
 long-asked true false z h = refl
 long-asked true true z h = rw (h refl)
 
+at-the-latest : (h : Header) → suc (longNo h) ≤ 4
+at-the-latest h = go (fieldsOk h) (limitsOk h)
+  where
+    go : (f l : Bool) → suc (ask 1 f (ask 2 l 3)) ≤ 4
+    go true true = omega arith
+    go true false = omega arith
+    go false l = omega arith
+
 module _ (s : List ℕ) (long : 65536 < length s) where
   long-sizes : sizesNo s ≡ suc (longNo (headerOf s))
   unfolding sizesNo
@@ -61,17 +69,12 @@ module _ (s : List ℕ) (long : 65536 < length s) where
       rw (le-leb 24 (length s) (omega arith))
       (long-asked (fieldsOk h) (limitsOk h) (lengthOk h s) (λ ok. ne-eqb (length s) (sizeOf h) (λ e. omega (arith, e, size-small h ok))))
 
-  pub long-refused : outputText s ≡ refusal (suc (longNo (headerOf s)))
+  long-output : outputText s ≡ refusal (suc (longNo (headerOf s)))
   unfolding outputText callNo firstNo
-  long-refused = rw long-sizes
+  long-output = rw long-sizes
 
-pub at-the-latest : (h : Header) → suc (longNo h) ≤ 4
-at-the-latest h = go (fieldsOk h) (limitsOk h)
-  where
-    go : (f l : Bool) → suc (ask 1 f (ask 2 l 3)) ≤ 4
-    go true true = omega arith
-    go true false = omega arith
-    go false l = omega arith
+  pub long-refused : (k : ℕ) × ((1 ≤ k) × (k ≤ 4) × (outputText s ≡ refusal k))
+  long-refused = (suc (longNo (headerOf s)), (omega arith, at-the-latest (headerOf s), long-output))
 
 -- ---- the first n bytes
 module _ (s : List ℕ) (n : ℕ) (big : 65537 ≤ n) where
@@ -108,5 +111,5 @@ module _ (s : List ℕ) (n : ℕ) (big : 65537 ≤ n) where
       elim (decLe (length s) n) [
         | yes a ↦ ap outputText (take-all n s a)
         | no a ↦
-            long-refused (take n s) (omega (arith, length-take n s)) ∙ ap (λ (h : Header). refusal (suc (longNo h))) header-same ∙ sym (long-refused s (omega arith))
+            long-output (take n s) (omega (arith, length-take n s)) ∙ ap (λ (h : Header). refusal (suc (longNo h))) header-same ∙ sym (long-output s (omega arith))
       ]

@@ -1,7 +1,7 @@
 -- What the call left, as the program lends it on and prints it, is what the definition says.
 -- With a number every list is as it was; else the first entries of each, as many as its size says, are its part of the listing.
 use mathlib.Core.Path.{_≡_, refl, sym, ap, _∙_}
-use mathlib.Core.Bool.{Bool, true, false}
+use mathlib.Core.Bool.{Bool, true, false, true≢false, false≢true}
 use mathlib.Core.List.{List, _++_}
 use Prim.Native.Nat.{ℕ, zero, suc, _+_, _≤_}
 use native.Mathlib.Omega.{arith}
@@ -42,15 +42,12 @@ abbrev sizesIn : Sizes → Answer → Sizes
 sizesIn d (Listed z) = z
 sizesIn d (No n) = d
 
-different : {A : Type 0} → true ≡ false → A
-different e = absurd (let z : _≡_ {A = ℕ} 0 1 = cc in omega arith)
-
 listed-zero : (z d : Sizes) (n : ℕ) → Listed z ≡ answerFor d n → (n ≡ 0) × (z ≡ d)
 listed-zero z d zero e = (refl, ap (sizesIn d) e)
-listed-zero z d (suc n) e = different (ap isListed e)
+listed-zero z d (suc n) e = absurd (true≢false (ap isListed e))
 
 refused-output : (m : ℕ) (d : Sizes) (n : ℕ) (page : List ℕ) → No m ≡ answerFor d n → outputFor n page ≡ refusal m
-refused-output m d zero page e = different (sym (ap isListed e))
+refused-output m d zero page e = absurd (false≢true (ap isListed e))
 refused-output m d (suc n) page e = ap refusal (sym (ap numberOf e))
 
 -- ---- the entries of a list that the sizes count

@@ -1,5 +1,5 @@
--- "900 lines always suffice": the program never prints `no 14`.
--- No question before 12 has that number, and an accepted record has at most 900 lines.
+-- "900 lines always suffice": with the program's lists the number is at most 13.
+-- Questions before 12 have smaller numbers, and an accepted record has at most 900 lines, so question 14 gets a yes.
 use mathlib.Core.Path.{_≡_, refl}
 use mathlib.Core.Bool.{Bool, true, false, _&&_}
 use mathlib.Core.List.{List}
@@ -41,22 +41,21 @@ first-le s from to =
     else-le (sizesNo s) _ 11 sizes (else-le (blocksNo h s) _ 11 marks (else-le (contentsNo h s) _ 11 contents range))
 
 module _ (s : List ℕ) where
-  pub lines-suffice : firstNo s 0 (blocks s) ≡ 0 → length (recordAddresses (headerOf s) s 0 (blocks s)) ≤ 900
+  lines-suffice : firstNo s 0 (blocks s) ≡ 0 → length (recordAddresses (headerOf s) s 0 (blocks s)) ≤ 900
   lines-suffice e =
       let h = headerOf s in
       let to = blocks s in
       let a : Accepted s 0 to h = record { header = refl; yes = e } in
       omega (arith, record-few h s 0 to (limits s 0 to h a) (counted s 0 to h a) (in-range s 0 to h a), length-map (recordPlan h s 0 to) (lineAddress h s))
 
-  pub never-14 : callNo s 0 (blocks s) programRooms ≡ 14 → ⊥
+  pub below-14 : callNo s 0 (blocks s) programRooms ≤ 13
   unfolding callNo roomNo
-  never-14 e = go (firstNo s 0 (blocks s)) refl e
+  below-14 = go (firstNo s 0 (blocks s)) refl
     where
-      go : (f : ℕ) → firstNo s 0 (blocks s) ≡ f → orElse f (roomNo (sizes s 0 (blocks s)) programRooms) ≡ 14 → ⊥
-      go (suc f) q e = omega (arith, q, e, first-le s 0 (blocks s))
-      go zero q e =
+      go : (f : ℕ) → firstNo s 0 (blocks s) ≡ f → orElse f (roomNo (sizes s 0 (blocks s)) programRooms) ≤ 13
+      go (suc f) q = omega (arith, q, first-le s 0 (blocks s))
+      go zero q =
           let z = sizes s 0 (blocks s) in
-          let room = le-leb (z .lines) 900 (lines-suffice q) in
           let tokens = leb (z .tokens) 16384 && leb (z .tokens) 16384 in
-          let most : roomNo z programRooms ≤ 13 = rw room (ask-le 12 (leb (z .text) 65536) (ask 13 tokens 0) 13 (omega arith) (ask-le 13 tokens 0 13 (omega arith) (omega arith))) in
-          omega (arith, most, e)
+          rw (le-leb (z .lines) 900 (lines-suffice q))
+          (ask-le 12 (leb (z .text) 65536) (ask 13 tokens 0) 13 (omega arith) (ask-le 13 tokens 0 13 (omega arith) (omega arith)))

@@ -1,7 +1,8 @@
 -- What the program prints of a record: "takes the whole range, and prints `no` and the number, or the lines below".
-use Prim.Native.Nat.{ℕ, zero, suc}
+use Prim.Native.Nat.{ℕ, zero, suc, _≤_, _<_}
 use mathlib.Core.List.{List}
-use lib.ListN.{length}
+use mathlib.Core.Path.{_≡_}
+use lib.ListN.{length, take}
 use Rattle.tokens.specs.Listing.{Listing}
 use Rattle.record.specs.Header.{headerOf}
 use Rattle.pseudo.specs.declared.rooms.Rooms.{Rooms}
@@ -34,6 +35,16 @@ module _ (s : List ℕ) where
 
   unfoldable pub outputText : List ℕ
   outputText = outputFor (callNo s 0 blocks programRooms) recordPage
+
+-- What the program promises of the bytes that it prints for an input.
+pub record Prints (s out : List ℕ) : Type 0 where
+  -- "takes the whole range, and prints `no` and the number, or the lines below"
+  pub text : out ≡ outputText s
+  -- "Longer input is judged by its first 65,537 bytes, so 4 refuses it at the latest."
+  pub judged : (n : ℕ) → 65537 ≤ n → out ≡ outputText (take n s)
+  pub refused : 65536 < length s → (k : ℕ) × ((1 ≤ k) × (k ≤ 4) × (out ≡ refusal k))
+  -- "900 lines always suffice."
+  pub suffices : out ≡ refusal 14 → ⊥
 
 -- how many bytes were read; none count where reading failed
 abbrev pub bytesRead : Input → ℕ

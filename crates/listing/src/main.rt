@@ -16,14 +16,14 @@ ghost use mathlib.Core.Path.{_≡_};
 ghost use Prim.Native.Nat.{_≤_};
 ghost use lib.ListN.{length, take};
 ghost use Rattle.lists.specs.Put.{put};
-ghost use Rattle.listing.specs.Output.{outputText, bytesRead};
+ghost use Rattle.listing.specs.Output.{outputText, Prints, bytesRead};
 
 // What the program prints of a record; answers how many bytes that is. `lines=900` and LF are 10, each of 900 lines has 16 digits,
 // a space, at most 2 * 255 spaces and LF beside its text, and the text at most 65,536: 540,746 bytes in all.
 fn answer(rec: &[u8], out: &mut [u8]) -> usize
     ensures end { λ r. ⌜ (r ≡ length (outputText (now (rec .entry)))) × (r ≤ 540746) ⌝ }
     ensures text { λ _. ⌜ now (out .exit) ≡ put 0 (outputText (now (rec .entry))) (now (out .entry)) ⌝ }
-    ensures whole { λ r. ⌜ (540746 ≤ length (now (out .entry)) → take r (now (out .exit)) ≡ outputText (now (rec .entry))) ⌝ }
+    ensures whole { λ r. ⌜ (540746 ≤ length (now (out .entry)) → Prints (now (rec .entry)) (take r (now (out .exit)))) ⌝ }
 {
     let to = size(read_header(rec).blocks);
     let mut text = [0u8; 65536];
