@@ -2,4 +2,4 @@ pub mod RowTable
 pub mod Names
 pub mod Pieces
 pub mod Turns
-pub mod Shows
+pub mod LinesShown

@@ -25,7 +25,7 @@ use Rattle.pseudo.specs.declared.rooms.Sizes.{Sizes}
 use Rattle.pseudo.specs.declared.rooms.Rooms.{Rooms}
 use Rattle.pseudo.specs.declared.call.Answer.{Answer}
 use Rattle.tokens.proofs.Lines.{lines-back}
-use Rattle.line.proofs.Shows.{conditions-shown, calls-shown}
+use Rattle.line.proofs.LinesShown.{conditions-shown, calls-shown}
 use Rattle.pseudo.proofs.Answers.{printed-length}
 use Rattle.pseudo.proofs.Demand.{listing-demand3}
 

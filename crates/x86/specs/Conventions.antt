@@ -10,16 +10,23 @@ use Rattle.lists.specs.Choice.{pick}
 use Rattle.x86.specs.Registers.{qword, registerNames, registerName}
 use Rattle.x86.specs.Words.{wordsOf}
 
--- the registers of Microsoft x64 and of System V AMD64, by name: "convention (0 Microsoft x64, 1 System V)"
-abbrev pub argumentNames : ℕ → List (List ℕ)
-argumentNames convention = pick (eqb convention 0) (wordsOf "rcx rdx r8 r9") (wordsOf "rdi rsi rdx rcx r8 r9")
+-- Microsoft x64, by name and by number
+abbrev pub microsoftNames : List (List ℕ)
+microsoftNames = wordsOf "rcx rdx r8 r9"
 
--- and by number
 abbrev pub microsoft : List ℕ
 microsoft = qword 1 ∷ qword 2 ∷ qword 8 ∷ qword 9 ∷ []
 
+-- System V AMD64
+abbrev pub systemVNames : List (List ℕ)
+systemVNames = wordsOf "rdi rsi rdx rcx r8 r9"
+
 abbrev pub systemV : List ℕ
 systemV = qword 7 ∷ qword 6 ∷ qword 2 ∷ qword 1 ∷ qword 8 ∷ qword 9 ∷ []
+
+-- "convention (0 Microsoft x64, 1 System V)"
+abbrev pub argumentNames : ℕ → List (List ℕ)
+argumentNames convention = pick (eqb convention 0) microsoftNames systemVNames
 
 unfoldable pub argumentRegisters : ℕ → List ℕ
 argumentRegisters convention = pick (eqb convention 0) microsoft systemV
@@ -29,7 +36,7 @@ pub arguments-named : (convention : ℕ) → map registerName (argumentRegisters
 unfolding argumentRegisters registerName registerNames
 arguments-named convention = go (eqb convention 0)
   where
-    go : (b : Bool) → map registerName (pick b microsoft systemV) ≡ pick b (wordsOf "rcx rdx r8 r9") (wordsOf "rdi rsi rdx rcx r8 r9")
+    go : (b : Bool) → map registerName (pick b microsoft systemV) ≡ pick b microsoftNames systemVNames
     go true = refl
     go false = refl
 
