@@ -29,10 +29,10 @@ use Rattle.operand.specs.Memory.{slotBase, slotNumber, isSlot, slotToken, displ
 use Rattle.operand.specs.Operand.{signedRead, immediateNumber, immediate, opTokens}
 use Rattle.expressions.specs.Condition.{flagWriter, afterWriter, conditionTokens}
 use Rattle.record.specs.Blocks.{firstInstruction, firstEdge}
-use Rattle.structure.specs.Graph.{closesLoop, hasEdge, endingIn, singleEntry, escapes as leaves, outsideJump}
+use Rattle.cfg.specs.Graph.{closesLoop, hasEdge, endingIn, singleEntry, escapes as leaves, outsideJump}
+use Rattle.cfg.specs.Shape.{shapeAt, lastLoop, regionAt, opensRegion}
 use Rattle.structure.specs.Tree.{treeOf, treeGo}
 use Rattle.record.specs.Search.{findFrom, lastFrom}
-use Rattle.structure.specs.Shape.{shapeAt, lastLoop, regionAt, opensRegion}
 use Rattle.structure.specs.Plan.{rangeLines, treeLines, plainLines, shownLines, bodyCount, closingLines, loopLines, flatLines, flatBlock, testBlock}
 use Rattle.flow.specs.Silent.{isSilentItself, isPrologueNoise, endingOf}
 use Rattle.flow.specs.Rows.{rowsFrom, blockRow, edgeRow, shownRow, blockEnding, blockBranch, placeOf, blockRows, edgeRows, shownRows}

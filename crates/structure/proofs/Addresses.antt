@@ -7,14 +7,14 @@ use Prim.Native.Nat.{ℕ, zero, suc, _+_, _-_, _≤_}
 use native.Mathlib.Numerals.{add-one}
 use native.Mathlib.Omega.{arith}
 use lib.ListN.{length, replicate, length-append, length-replicate}
-use Rattle.structure.specs.Graph.{firstIn, countIn, endingIn, lastIn, labelWanted}
+use Rattle.cfg.specs.Graph.{firstIn, countIn, endingIn, lastIn, labelWanted}
+use Rattle.cfg.proofs.Within.{closes-some}
 use Rattle.structure.specs.Tree.{Tree}
 use Rattle.structure.specs.Tree.Tree.{over, plain, region, loop}
 use Rattle.structure.specs.Plan.{Line, line, labelIf, labelled, headLabelled, bodyLines, plainLines, flatBlock, flatLines, testBlock, loopLines, regionLines, treeLines}
 use Rattle.structure.specs.Plan.What.{open-line, close-line}
 use Rattle.structure.specs.Demand.{Context, contexts, unsilenced, unsilencedIn, counted}
 use Rattle.structure.specs.Demand.Context.{in-range, in-body, last-in-body}
-use Rattle.structure.proofs.Within.{closes-some}
 use Rattle.structure.proofs.Grown.{Fits}
 use Rattle.structure.proofs.Unsilenced.{counted-join, unsilenced-join, last-counted, plain-counted, flat-counted, head-counted}
 
