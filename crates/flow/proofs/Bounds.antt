@@ -13,7 +13,7 @@ use Rattle.record.specs.declared.header.Header.{Header}
 use Rattle.record.specs.Header.{limitsOk}
 use Rattle.record.specs.Layout.{startsOf, marksOf, targetsOf}
 use Rattle.record.specs.Blocks.{firstInstruction}
-use Rattle.structure.specs.Graph.{countIn}
+use Rattle.cfg.specs.Graph.{countIn}
 use Rattle.structure.specs.Demand.{Shallow}
 use Rattle.structure.specs.Placed.{Placed}
 use Rattle.structure.proofs.PlanPlaced.{plan-placed}

@@ -22,7 +22,7 @@ use Rattle.record.proofs.AskedLaws.{yes-bodies}
 use Rattle.record.specs.Layout.{marksOf, bodiesOf}
 use Rattle.record.specs.Blocks.{instructionsIn, firstInstruction}
 use Rattle.record.specs.Body.{bodyAt, mnemonicOf, conditionOf, operandKind, operandNumber, setsByCondition, conditionOk, fixedOk, operandsOk, bodyOk, bodiesOk}
-use Rattle.structure.specs.Graph.{firstIn, countIn, endingIn, branchTo, lastIn, isShown}
+use Rattle.cfg.specs.Graph.{firstIn, countIn, endingIn, branchTo, lastIn, isShown}
 use Rattle.structure.specs.Plan.{goesNext}
 use Rattle.structure.specs.Demand.{Context, lastSilent, silent, unsilenced, unsilencedIn}
 use Rattle.structure.specs.Demand.Context.{in-range, in-body, last-in-body}

@@ -13,8 +13,8 @@ use Rattle.record.specs.declared.header.Header.{Header}
 use Rattle.record.specs.Layout.{marksOf, targetsOf, edgeKindsOf, bodiesOf}
 use Rattle.record.specs.Blocks.{instructionsIn, edgesIn, labelMark, firstInstruction, firstEdge, targetAt, edgeKindAt}
 use Rattle.record.specs.Body.{bodyAt}
-use Rattle.structure.specs.Graph.{firstIn, countIn, firstEdgeIn, labelWanted, endingIn, branchTo, edgeTo, edgeKind, isShown}
-use Rattle.structure.specs.Graph as flow
+use Rattle.cfg.specs.Graph.{firstIn, countIn, firstEdgeIn, labelWanted, endingIn, branchTo, edgeTo, edgeKind, isShown}
+use Rattle.cfg.specs.Graph as flow
 use Rattle.flow.specs.Silent.{isSilentItself, endingOf}
 use Rattle.flow.specs.Rows.{placeOf, lastBody, blockEnding, blockBranch, blockRow, blockRows, edgeRow, edgeRows, shownRow, shownRows}
 use Rattle.flow.proofs.Laws.{rows-length, row-at}

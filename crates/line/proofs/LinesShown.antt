@@ -18,9 +18,9 @@ use Rattle.record.specs.declared.header.Header.{Header}
 use Rattle.record.specs.Layout.{bodiesOf}
 use Rattle.record.specs.Body.{mnemonicOf, conditionOf, operandKind, baseOf}
 use Rattle.operand.specs.Memory.{isIp}
+use Rattle.cfg.specs.Graph.{firstIn}
 use Rattle.structure.specs.Plan.{What, Line}
 use Rattle.structure.specs.Plan.What.{label-line, do-line, open-line, if-goto, while-line, close-line, goto-line, tail-call, insn-line}
-use Rattle.structure.specs.Graph.{firstIn}
 use Rattle.flow.specs.Rows.{blockRows}
 use Rattle.expressions.specs.Condition.{bodyOf, conditionTokens}
 use Rattle.expressions.specs.Arguments.{argumentTokens}

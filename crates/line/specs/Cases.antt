@@ -31,9 +31,9 @@ use Rattle.operand.specs.Names.{entryAt, entryToken, nameOr, inSpan}
 use Rattle.operand.specs.Memory.{slotBase, slotNumber, isSlot, slotToken, displacement, addressExpr, memExpr, memTokens}
 use Rattle.operand.specs.Operand.{signedRead, immediateNumber, immediate, opTokens}
 use Rattle.expressions.specs.Condition.{flagWriter, afterWriter, conditionTokens}
-use Rattle.structure.specs.Graph.{closesLoop, hasEdge, endingIn}
+use Rattle.cfg.specs.Graph.{closesLoop, hasEdge, endingIn}
+use Rattle.cfg.specs.Shape.{shapeAt, lastLoop, regionAt, opensRegion}
 use Rattle.structure.specs.Tree.{treeOf, treeGo}
-use Rattle.structure.specs.Shape.{shapeAt, lastLoop, regionAt, opensRegion}
 use Rattle.structure.specs.Plan.{rangeLines, treeLines, plainLines, shownLines, bodyCount, closingLines}
 use Rattle.flow.specs.Silent.{isSilentItself, isPrologueNoise, endingOf}
 use Rattle.flow.specs.Rows.{rowsFrom, blockRow, edgeRow, shownRow, blockEnding, blockBranch, placeOf, blockRows, edgeRows, shownRows}

@@ -18,9 +18,9 @@ use Rattle.record.specs.Body.{mnemonicOf, conditionOf, operandCount, operandNum
 use Rattle.operand.specs.Memory.{number, memTokens}
 use Rattle.operand.specs.Names.{nameOr}
 use Rattle.operand.specs.Operand.{opTokens}
+use Rattle.cfg.specs.Graph.{firstIn}
 use Rattle.structure.specs.Plan.{What, Line, is}
 use Rattle.structure.specs.Plan.What.{insn-line}
-use Rattle.structure.specs.Graph.{firstIn}
 use Rattle.flow.specs.Rows.{blockRows}
 use Rattle.expressions.specs.Condition.{bodyOf, conditionTokens}
 use Rattle.expressions.specs.Arguments.{argumentTokens, writtenAfter, commaIf}

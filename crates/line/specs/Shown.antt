@@ -13,9 +13,9 @@ use Rattle.record.specs.declared.header.Header.{Header}
 use Rattle.record.specs.Body.{mnemonicOf, conditionOf, operandKind, operandNumber}
 use Rattle.operand.specs.Names.{nameOr}
 use Rattle.operand.specs.Operand.{opTokens}
+use Rattle.cfg.specs.Graph.{firstIn}
 use Rattle.structure.specs.Plan.{What, Line, is}
 use Rattle.structure.specs.Plan.What.{label-line, do-line, open-line, if-goto, while-line, close-line, goto-line, tail-call, insn-line}
-use Rattle.structure.specs.Graph.{firstIn}
 use Rattle.flow.specs.Rows.{blockRows}
 use Rattle.expressions.specs.Condition.{bodyOf}
 use Rattle.expressions.specs.Shown.{Shows}

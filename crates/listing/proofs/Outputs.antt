@@ -13,7 +13,7 @@ use Rattle.tokens.specs.Listing.{Listing}
 use Rattle.tokens.specs.ListingLaws.{lines-length}
 use Rattle.record.specs.Header.{headerOf}
 use Rattle.operand.specs.Bounds.{AllBytes}
-use Rattle.structure.specs.Graph.{firstIn}
+use Rattle.cfg.specs.Graph.{firstIn}
 use Rattle.flow.specs.Rows.{blockRows}
 use Rattle.flow.specs.Planned.{recordPlan}
 use Rattle.pseudo.specs.declared.rooms.Sizes.{Sizes}

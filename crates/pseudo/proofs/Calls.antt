@@ -15,8 +15,8 @@ use Rattle.record.specs.declared.asked.Asked.{Asked}
 use Rattle.record.specs.declared.asked.Asked.the-variants as case
 use Rattle.record.specs.Header.{headerOf, limitsOk}
 use Rattle.record.specs.Asked.{answerOf, firstNo}
+use Rattle.cfg.specs.Graph.{firstIn}
 use Rattle.structure.specs.Plan.{codeOf}
-use Rattle.structure.specs.Graph.{firstIn}
 use Rattle.structure.specs.Demand.{Shallow}
 use Rattle.structure.specs.Stored.{Stored}
 use Rattle.operand.proofs.Accepted.{accepted-rising}

@@ -9,7 +9,7 @@ use Rattle.record.specs.declared.header.Header.{Header}
 use Rattle.record.specs.Layout.{startsOf, addressesOf}
 use Rattle.record.specs.Blocks.{startAt}
 use Rattle.record.specs.Body.{addressAt}
-use Rattle.structure.specs.Graph.{firstIn}
+use Rattle.cfg.specs.Graph.{firstIn}
 use Rattle.structure.specs.Plan.{What, Line, is}
 use Rattle.structure.specs.Plan.What.{label-line, do-line, close-line}
 use Rattle.flow.specs.Rows.{blockRows}

@@ -7,14 +7,13 @@ use Prim.Native.Nat.{ℕ, zero, suc, _+_, _-_, _≤_}
 use native.Mathlib.Numerals.{add-one}
 use native.Mathlib.Omega.{arith}
 use lib.ListN.{length, replicate, length-append, length-replicate}
-use Rattle.structure.specs.Graph.{firstIn, countIn, endingIn, lastIn, labelWanted}
+use Rattle.cfg.specs.Graph.{firstIn, countIn, endingIn, lastIn, labelWanted}
+use Rattle.cfg.proofs.Within.{closes-some}
 use Rattle.structure.specs.Tree.{Tree}
 use Rattle.structure.specs.Tree.Tree.{over, plain, region, loop}
-use Rattle.structure.specs.Plan.{Line, line, labelIf, labelled, headLabelled, bodyLines, plainLines, flatBlock, flatLines, testBlock, loopLines, regionLines, treeLines}
-use Rattle.structure.specs.Plan.What.{open-line, close-line}
+use Rattle.structure.specs.Plan.{Line, labelIf, labelled, headLabelled, bodyLines, plainLines, flatBlock, flatLines, testBlock, loopLines, regionLines, treeLines}
 use Rattle.structure.specs.Demand.{Context, contexts, unsilenced, unsilencedIn, counted}
 use Rattle.structure.specs.Demand.Context.{in-range, in-body, last-in-body}
-use Rattle.structure.proofs.Within.{closes-some}
 use Rattle.structure.proofs.Grown.{Fits}
 use Rattle.structure.proofs.Unsilenced.{counted-join, unsilenced-join, last-counted, plain-counted, flat-counted, head-counted}
 
@@ -71,8 +70,8 @@ module _ (blocks edges shown : List ℕ) (B : ℕ) where
   unfolding counted
   region-addresses from i to d inner e =
       label-counted (labelled blocks edges B from i to) i d _
-      ∙ counted-join (bodyLines blocks shown i d) (line open-line i (lastIn blocks i) d ∷ (inner ++ (line close-line i 0 d ∷ [])))
-      ∙ rw (counted-join inner (line close-line i 0 d ∷ []), append-nil (counted inner), ← head-counted blocks shown i to d e)
+      ∙ counted-join (bodyLines blocks shown i d) _
+      ∙ rw (counted-join inner, append-nil (counted inner), ← head-counted blocks shown i to d e)
       (sym (append-assoc (counted (bodyLines blocks shown i d)) (lastIn blocks i ∷ []) (counted inner)))
 
   pub tree-addresses : (t : Tree) (from i to d : ℕ) → Fits blocks edges t i to

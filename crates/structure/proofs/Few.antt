@@ -10,13 +10,13 @@ use lib.Dec.{ltb}
 use lib.ListN.{getD, length, length-append}
 use borrow.Author.Tests.{eq-eqb}
 use Rattle.lists.specs.Choice.{pick, sumBelow}
-use Rattle.structure.specs.Graph.{firstIn, countIn, endingIn, endsInBranch, endsInJmp, branchTo, isBlock, lastIn, isShown, labelWanted}
+use Rattle.cfg.specs.Graph.{firstIn, countIn, endingIn, endsInBranch, endsInJmp, branchTo, isBlock, lastIn, isShown, labelWanted}
+use Rattle.cfg.proofs.Within.{pick-both, ends-some, closes-some}
 use Rattle.structure.specs.Tree.{Tree, treeOf}
 use Rattle.structure.specs.Tree.Tree.{over, plain, region, loop}
 use Rattle.structure.specs.Plan.{Line, line, labelIf, labelled, headLabelled, shownLines, bodyCount, goesNext, branchLines, closingLines, plainLines, flatBlock, flatLines, testBlock, loopLines, regionLines, treeLines, rangeLines, planOf}
 use Rattle.structure.specs.Plan.What.{goto-line, tail-call}
 use Rattle.structure.specs.Demand.{instructionsFrom}
-use Rattle.structure.proofs.Within.{pick-both, ends-some, closes-some}
 use Rattle.structure.proofs.Grown.{Fits, tree-fits}
 
 -- ---- sums over places

@@ -7,13 +7,13 @@ use Prim.Native.Nat.{ℕ, zero, suc, _+_, _-_, _≤_, _<_}
 use native.Mathlib.Omega.{arith}
 use lib.Dec.{ltb}
 use borrow.Author.Tests.{ltb-true, ltb-false, lt-ltb, le-ltb}
-use Rattle.structure.specs.Graph.{endingIn, branchTo, closesLoop}
-use Rattle.structure.specs.Shape.{shapeAt}
+use Rattle.cfg.specs.Graph.{endingIn, branchTo, closesLoop}
+use Rattle.cfg.specs.Shape.{shapeAt}
+use Rattle.cfg.proofs.Within.{Within, shape-within}
+use Rattle.cfg.specs.declared.shape.Shape.{Shape}
+use Rattle.cfg.specs.declared.shape.Shape.the-variants.{Loop, Region, Plain}
 use Rattle.structure.specs.Tree.{Tree, grow, treeGo, treeOf}
 use Rattle.structure.specs.Tree.Tree.{over, plain, region, loop}
-use Rattle.structure.proofs.Within.{Within, shape-within}
-use Rattle.structure.specs.declared.shape.Shape.{Shape}
-use Rattle.structure.specs.declared.shape.Shape.the-variants.{Loop, Region, Plain}
 
 module _ (blocks edges : List ℕ) where
   -- a tree is one of the range from i up to `to`

@@ -1,4 +1,3 @@
-pub mod Within
 pub mod Grown
 pub mod Plain
 pub mod Unsilenced
@@ -11,6 +10,3 @@ pub mod Storing
 pub mod Parts
 pub mod Turns
 pub mod Worked
-pub mod Found
-pub mod Stands
-pub mod Sourced

@@ -8,7 +8,7 @@ use native.Mathlib.Numerals.{add-one}
 use native.Mathlib.Omega.{arith}
 use lib.Dec.{ltb}
 use Rattle.lists.specs.Choice.{pick}
-use Rattle.structure.specs.Graph.{firstIn, countIn, lastIn, labelWanted, isShown}
+use Rattle.cfg.specs.Graph.{firstIn, countIn, lastIn, labelWanted, isShown}
 use Rattle.structure.specs.Plan.{Line, line, codeOf, labelIf, labelled, headLabelled, bodyLines, shownLines, branchLines, closingLines, plainLines, flatBlock, flatLines, testBlock, loopLines, regionLines}
 use Rattle.structure.specs.Plan.What.{do-line, open-line, while-line, close-line, insn-line}
 use Rattle.structure.specs.Codes.{codes, shownLine, headLines, doLines}

@@ -7,10 +7,10 @@ use native.Mathlib.Nat.{le-refl}
 use native.Mathlib.Omega.{arith}
 use lib.Dec.{ltb}
 use Rattle.lists.specs.Choice.{pick}
-use Rattle.structure.specs.Graph.{firstIn, countIn, endsInBranch, endsInJmp, branchTo, isBlock, lastIn, isShown, labelWanted}
+use Rattle.cfg.specs.Graph.{firstIn, countIn, endsInBranch, endsInJmp, branchTo, isBlock, lastIn, isShown, labelWanted}
+use Rattle.cfg.proofs.Within.{pick-both}
 use Rattle.structure.specs.Plan.{What, Line, line, labelIf, labelled, shownLines, bodyCount, bodyLines, goesNext, jumpLines, branchLines, closingLines, plainLines, flatBlock, flatLines}
 use Rattle.structure.specs.Plan.What.{label-line, do-line, open-line, if-goto, while-line, close-line, goto-line, tail-call, insn-line}
-use Rattle.structure.proofs.Within.{pick-both}
 
 -- a line that opens and closes no brace
 abbrev pub Braceless : What → Type 0

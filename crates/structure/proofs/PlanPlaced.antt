@@ -5,7 +5,7 @@ use mathlib.Core.List.{List, [], _∷_, _++_}
 use Prim.Native.Nat.{ℕ, _+_, _-_, _≤_, _<_, zero-le}
 use native.Mathlib.Nat.{le-refl}
 use native.Mathlib.Omega.{arith}
-use Rattle.structure.specs.Graph.{firstIn, countIn, lastIn, labelWanted}
+use Rattle.cfg.specs.Graph.{firstIn, countIn, lastIn, labelWanted}
 use Rattle.structure.specs.Tree.{Tree, treeOf}
 use Rattle.structure.specs.Tree.Tree.{over, plain, region, loop}
 use Rattle.structure.specs.Plan.{What, Line, line, labelIf, labelled, headLabelled, shownLines, bodyLines, plainLines, flatLines, testBlock, loopLines, regionLines, treeLines, rangeLines, planOf}

@@ -5,16 +5,16 @@ use mathlib.Core.Bool.{true}
 use mathlib.Core.List.{List, []}
 use Prim.Native.Nat.{ℕ, _+_, _≤_, _<_}
 use Rattle.record.specs.declared.blocks.Place.{Place}
-use Rattle.structure.specs.Shape.{shapeAt}
+use Rattle.cfg.specs.Shape.{shapeAt}
+use Rattle.cfg.proofs.Within.{Within, shape-within}
+use Rattle.cfg.specs.declared.shape.Shape.{Shape}
+use Rattle.cfg.specs.declared.shape.Shape.the-variants.{Loop, Region, Plain}
 use Rattle.structure.specs.Tree.{treeOf, grow}
 use Rattle.structure.specs.Plan.{Line, plainLines, loopLines, regionLines, treeLines, rangeLines}
 use Rattle.structure.specs.Codes.{codes}
-use Rattle.structure.proofs.Within.{Within, shape-within}
 use Rattle.structure.proofs.Grown.{tree-stop, tree-step}
 use Rattle.structure.proofs.Parts.{codes-join}
 use Rattle.structure.proofs.Storing.{Splits}
-use Rattle.structure.specs.declared.shape.Shape.{Shape}
-use Rattle.structure.specs.declared.shape.Shape.the-variants.{Loop, Region, Plain}
 
 module _ (blocks edges shown starts targets : List ℕ) (B : ℕ) where
   abbrev range : ℕ → ℕ → ℕ → ℕ → List Line

@@ -10,12 +10,12 @@ use lib.Dec.{eqb}
 use lib.ListN.{length}
 use borrow.Author.Tests.{eqb-true, eq-eqb, ne-eqb}
 use Rattle.lists.specs.Choice.{pick}
-use Rattle.structure.specs.Graph.{firstIn, countIn, endingIn, endsInBranch, endsInJmp, branchTo, isBlock, lastIn, isShown}
+use Rattle.cfg.specs.Graph.{firstIn, countIn, endingIn, endsInBranch, endsInJmp, branchTo, isBlock, lastIn, isShown}
+use Rattle.cfg.proofs.Within.{ends-some}
 use Rattle.structure.specs.Plan.{What, Line, line, shownLines, bodyCount, bodyLines, goesNext, jumpLines, branchLines, closingLines}
 use Rattle.structure.specs.Plan.What.{label-line, do-line, open-line, if-goto, while-line, close-line, goto-line, tail-call, insn-line}
 use Rattle.structure.specs.Demand.{Context, lastSilent, silent, unsilenced, unsilencedIn, count, counted}
 use Rattle.structure.specs.Demand.Context.{in-range, in-body, last-in-body}
-use Rattle.structure.proofs.Within.{ends-some}
 
 -- ---- the instructions of two runs of lines
 

@@ -3,9 +3,9 @@
 use mathlib.Core.Path.{_≡_, refl}
 use mathlib.Core.List.{List, [], _∷_}
 use Prim.Native.Nat.{ℕ}
-use Rattle.structure.specs.Graph.{closesLoop, hasEdge, endingIn, singleEntry, escapes, outsideJump}
+use Rattle.cfg.specs.Graph.{closesLoop, hasEdge, endingIn, singleEntry, escapes, outsideJump}
 use Rattle.record.specs.Search.{lastFrom}
-use Rattle.structure.specs.Shape.{shapeAt, lastLoop, regionAt, opensRegion}
+use Rattle.cfg.specs.Shape.{shapeAt, lastLoop, regionAt, opensRegion}
 use Rattle.structure.specs.Tree.{treeOf, treeGo}
 use Rattle.structure.specs.Plan.{line, planOf, rangeLines, treeLines, plainLines, shownLines, bodyCount, closingLines, loopLines, flatLines, flatBlock, testBlock}
 use Rattle.structure.specs.Plan.What.{label-line, do-line, open-line, if-goto, while-line, close-line, insn-line}

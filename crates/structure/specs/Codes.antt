@@ -2,7 +2,7 @@
 use mathlib.Core.List.{List, [], _∷_, _++_, map}
 use Prim.Native.Nat.{ℕ, _+_, _-_, _*_}
 use Rattle.lists.specs.Choice.{pick}
-use Rattle.structure.specs.Graph.{lastIn, isShown}
+use Rattle.cfg.specs.Graph.{lastIn, isShown}
 use Rattle.structure.specs.Plan.{Line, line, codeOf, labelIf, labelled, bodyLines, flatLines, testBlock}
 use Rattle.structure.specs.Plan.What.{open-line, insn-line}
 

@@ -6,7 +6,7 @@ use mathlib.Core.Path.{_≡_}
 use lib.Dec.{eqb}
 use lib.ListN.{length, replicate}
 use Rattle.lists.specs.Choice.{pick, sumBelow}
-use Rattle.structure.specs.Graph.{firstIn, countIn, endsInBranch, endsInJmp, lastIn, isShown}
+use Rattle.cfg.specs.Graph.{firstIn, countIn, endsInBranch, endsInJmp, lastIn, isShown}
 use Rattle.structure.specs.Tree.{Tree, treeOf}
 use Rattle.structure.specs.Tree.Tree.{over, plain, region, loop}
 use Rattle.structure.specs.Plan.{What, Line, is, goesNext, planOf}

@@ -1,10 +1,7 @@
-pub mod Graph
-pub mod Shape
 pub mod Tree
 pub mod Plan
 pub mod Demand
 pub mod Codes
 pub mod Stored
-pub mod Sources
 pub mod Placed
 pub mod Reads

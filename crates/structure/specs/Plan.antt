@@ -5,7 +5,7 @@ use mathlib.Core.List.{List, [], _∷_, _++_, map}
 use mathlib.Core.Bool.{Bool, _&&_, _||_}
 use lib.Dec.{ltb, eqb}
 use Rattle.lists.specs.Choice.{pick}
-use Rattle.structure.specs.Graph.{firstIn, countIn, labelWanted, endsInBranch, endsInJmp, branchTo, isBlock, lastIn, isShown, outsideJump}
+use Rattle.cfg.specs.Graph.{firstIn, countIn, labelWanted, endsInBranch, endsInJmp, branchTo, isBlock, lastIn, isShown, outsideJump}
 use Rattle.structure.specs.Tree.{Tree, treeOf}
 use Rattle.structure.specs.Tree.Tree.{over, plain, region, loop}
 

@@ -4,9 +4,9 @@ use Prim.Native.Nat.{ℕ, zero, suc, _+_, _-_}
 use mathlib.Core.List.{List}
 use mathlib.Core.Bool.{Bool, true, false}
 use lib.Dec.{ltb}
-use Rattle.structure.specs.Shape.{shapeAt}
-use Rattle.structure.specs.declared.shape.Shape.{Shape}
-use Rattle.structure.specs.declared.shape.Shape.the-variants.{Loop, Region, Plain}
+use Rattle.cfg.specs.Shape.{shapeAt}
+use Rattle.cfg.specs.declared.shape.Shape.{Shape}
+use Rattle.cfg.specs.declared.shape.Shape.the-variants.{Loop, Region, Plain}
 
 -- a range that is over; a plain block and the rest; an if-region up to a join, what is inside, and the rest; a do-loop up to its last
 -- place, and the rest

@@ -1,24 +1,24 @@
 // The lines of one block: a plain one, the head of an if-region, and those of a do-body.
-use crate::graph::branch_to;
-use crate::graph::count_in;
-use crate::graph::ending_in;
-use crate::graph::first_in;
-use crate::graph::label_wanted;
-use crate::graph::last_in;
 use crate::lines::label;
 use crate::lines::one_less;
 use crate::lines::put_line;
 use crate::lines::shown_lines;
-use crate::tests::has_outside_jump_to;
+use cfg::graph::branch_to;
+use cfg::graph::count_in;
+use cfg::graph::ending_in;
+use cfg::graph::first_in;
+use cfg::graph::label_wanted;
+use cfg::graph::last_in;
+use cfg::tests::has_outside_jump_to;
 use record::blocks::Place;
 use record::blocks::is_before;
 use record::blocks::same_place;
 ghost use mathlib.Core.Path.{_≡_};
 ghost use Prim.Native.Nat.{_+_, _-_, _<_};
+ghost use Rattle.cfg.specs.Sources.{Sources};
 ghost use Rattle.structure.specs.Plan.{bodyCount, bodyLines, goesNext, jumpLines, closingLines, plainLines, labelled};
 ghost use Rattle.structure.specs.Codes.{codes, headLines};
 ghost use Rattle.structure.specs.Stored.{Stored, Room};
-ghost use Rattle.structure.specs.Sources.{Sources};
 
 // Whether the block at place i of a range has a label.
 fn is_labelled(

@@ -1,11 +1,6 @@
 // The structure of a range: loops, regions, labels and jumps, as a plan of lines with no text.
 pub mod blocks;
 pub mod codes;
-pub mod edges;
-pub mod graph;
 pub mod lines;
 pub mod loops;
 pub mod plan;
-pub mod shape;
-pub mod sources;
-pub mod tests;

@@ -1,5 +1,5 @@
 // Lines of a plan, one number each, stored into a lent list from an index on. Each writer answers the index after its lines.
-use crate::graph::is_shown;
+use cfg::graph::is_shown;
 use lists::stores::store_u64;
 use record::blocks::Place;
 ghost use mathlib.Core.List.{[], _∷_};

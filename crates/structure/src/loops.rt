@@ -1,23 +1,23 @@
 // The lines of a do-loop: its label, its do-line, its body, which is flat, and its while-line.
 use crate::blocks::body_lines;
-use crate::graph::count_in;
-use crate::graph::ending_in;
-use crate::graph::first_in;
-use crate::graph::label_wanted;
-use crate::graph::last_in;
 use crate::lines::label;
 use crate::lines::one_less;
 use crate::lines::put_line;
 use crate::lines::shown_lines;
-use crate::tests::has_outside_jump_to;
+use cfg::graph::count_in;
+use cfg::graph::ending_in;
+use cfg::graph::first_in;
+use cfg::graph::label_wanted;
+use cfg::graph::last_in;
+use cfg::tests::has_outside_jump_to;
 use record::blocks::Place;
 use record::blocks::is_before;
 ghost use mathlib.Core.Path.{_≡_};
 ghost use Prim.Native.Nat.{_+_, _-_, _<_};
+ghost use Rattle.cfg.specs.Sources.{Sources};
 ghost use Rattle.structure.specs.Plan.{flatBlock, flatLines, testBlock, loopLines, headLabelled, branchLines};
 ghost use Rattle.structure.specs.Codes.{codes, doLines};
 ghost use Rattle.structure.specs.Stored.{Stored, Room};
-ghost use Rattle.structure.specs.Sources.{Sources};
 
 // The line of a closing conditional branch, if the block ends with one.
 fn branch_line(blocks: &[u16], k: Place, indent: u32, out: &mut [u64], at: usize) -> usize

@@ -7,13 +7,14 @@ use native.Mathlib.Omega.{arith}
 use borrow.Author.Needs.{needs}
 use borrow.Fn.Kinds.{In}
 use borrow.Fn.PlainCycle.{Measures, is, falls, and}
+use Rattle.cfg.specs.declared.shape.Shape.the-variants.{Loop, Region}
+use Rattle.cfg.proofs.Sourced.{ends-within}
+use Rattle.cfg.proofs.shape.shape_at.Reads as shape-at-reads
 use Rattle.structure.specs.Plan.{rangeLines}
 use Rattle.structure.specs.Codes.{codes}
 use Rattle.structure.proofs.Parts.{region-parts}
 use Rattle.structure.proofs.Turns.{range-over, turn-loop, turn-region, turn-plain, reach}
 use Rattle.structure.proofs.Storing.{Left, left-all, left-step, left-done, left-part, left-length, room-first, room-second, room-third, room-one, stored-three, stored-length}
-use Rattle.structure.specs.declared.shape.Shape.the-variants.{Loop, Region}
-use Rattle.structure.proofs.Sourced.{ends-within}
 use Rattle.structure.proofs.plan.emit_range.Reads as range-reads
 use Rattle.structure.proofs.plan.emit_range.Kinds as range-kinds
 use Rattle.structure.proofs.plan.+emit_range+emit_region.Lts-emit_range as range
@@ -24,7 +25,6 @@ use Rattle.structure.proofs.blocks.emit_head.Reads as head-reads
 use Rattle.structure.proofs.blocks.emit_plain.Reads as plain-reads
 use Rattle.structure.proofs.lines.put_line.Reads as put-line-reads
 use Rattle.structure.proofs.loops.emit_loop.Reads as loop-reads
-use Rattle.structure.proofs.shape.shape_at.Reads as shape-at-reads
 use Rattle.structure.proofs.plan.+emit_range+emit_region.{statement}
 use Rattle.structure.proofs.plan.+emit_range+emit_region.Tie.{close}
 

@@ -2,8 +2,8 @@
 -- Rows of two bytes a number have fewer lines than four bytes count.
 use Prim.Native.Nat.{ℕ, _<_}
 use lib.ListN.{getD, length-map}
+use Rattle.cfg.proofs.Sourced.{ends-are, sources-are}
 use Rattle.structure.proofs.Few.{lines-fit}
-use Rattle.structure.proofs.Sourced.{ends-are, sources-are}
 use borrow.Author.Needs.{needs}
 use native.Mathlib.Omega.{arith}
 use Rattle.structure.proofs.plan.plan.Statement.{statement}

@@ -1,0 +1,7 @@
+// The control-flow graph of a range, as rows of blocks and edges tell it: loops, entries, escapes, jumps from outside, and what
+// stands at a place.
+pub mod edges;
+pub mod graph;
+pub mod shape;
+pub mod sources;
+pub mod tests;
