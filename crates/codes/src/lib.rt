@@ -1,0 +1,3 @@
+// Token codes: tokens are coded as numbers in a list and counted as they go.
+pub mod code;
+pub mod state;

@@ -1,0 +1,62 @@
+-- What the writer of codes does: each token's bytes, end and kind stand in their places in the lent lists, and each line's token end.
+use mathlib.Core.Bool.{Bool}
+use mathlib.Core.List.{List, [], _∷_}
+use Prim.Native.Nat.{ℕ, suc, _+_, _-_, _≤_, _<_}
+use lib.ListN.{length, set}
+use Rattle.lists.specs.Choice.{pick}
+use Rattle.lists.specs.Put.{put}
+use Rattle.tokens.specs.Token.{Token}
+use Rattle.codes.specs.Code.{Event}
+use Rattle.codes.specs.Code.Event.{tok, end}
+use Rattle.writer.specs.declared.write.Cursor.{Cursor}
+
+-- the lent lists, and how much of them is written
+pub record Page : Type 0 where
+  pub text : List ℕ
+  pub ends : List ℕ
+  pub kinds : List ℕ
+  pub lines : List ℕ
+  pub at : Cursor
+
+abbrev pub page : (x e k l : List ℕ) → Cursor → Page
+page x e k l p = record { text = x; ends = e; kinds = k; lines = l; at = p }
+
+-- a token that goes on with the one before has its place, another one the next
+abbrev pub placeFor : Bool → ℕ → ℕ
+placeFor joins tokens = pick joins (tokens - 1) tokens
+
+-- where the cursor stands behind an event
+unfoldable pub behind : Cursor → Event → Cursor
+behind p (tok joins t) = record { text = p .text + length (t .bytes); tokens = suc (placeFor joins (p .tokens)); lines = p .lines }
+behind p end = record { text = p .text; tokens = p .tokens; lines = suc (p .lines) }
+
+unfoldable pub written : Page → Event → Page
+written P (tok joins t) = record {
+  text = put (P .at .text) (t .bytes) (P .text);
+  ends = set (P .ends) (placeFor joins (P .at .tokens)) (P .at .text + length (t .bytes));
+  kinds = set (P .kinds) (placeFor joins (P .at .tokens)) (t .kind);
+  lines = P .lines;
+  at = behind (P .at) (tok joins t);
+}
+written P end = record {
+  text = P .text;
+  ends = P .ends;
+  kinds = P .kinds;
+  lines = set (P .lines) (P .at .lines) (P .at .tokens);
+  at = behind (P .at) end;
+}
+
+unfoldable pub onPage : Page → List Event → Page
+onPage P [] = P
+onPage P (e ∷ es) = onPage (written P e) es
+
+-- lists of x bytes, e and k tokens and l lines have room for an event, and ends fit u32
+abbrev pub Fits : (x e k l : ℕ) → Cursor → Event → Type 0
+Fits x e k l p (tok joins t) =
+    (p .text + length (t .bytes) ≤ x) × (p .text + length (t .bytes) < 4294967296)
+    × (placeFor joins (p .tokens) < e) × (placeFor joins (p .tokens) < k)
+Fits x e k l p end = (p .lines < l) × (p .tokens < 4294967296)
+
+abbrev pub Room : (x e k l : ℕ) → Cursor → List Event → Type 0
+Room x e k l p [] = Unit {0}
+Room x e k l p (ev ∷ es) = Fits x e k l p ev × Room x e k l (behind p ev) es

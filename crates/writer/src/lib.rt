@@ -1,0 +1,2 @@
+// The writer of token codes.
+pub mod write;

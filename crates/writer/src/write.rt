@@ -1,0 +1,142 @@
+// The writer: each token's bytes are stored once, in the rest of the lent text, and its end and kind beside them.
+use lists::parts::part;
+use lists::reads::u64_in;
+use lists::reads::u8_at;
+use lists::stores::put_bytes;
+use text::literal::put_literal;
+use text::digits::write_num;
+use text::digits::write_prefixed;
+ghost use mathlib.Core.Path.{_≡_};
+ghost use mathlib.Core.List.{List};
+ghost use Prim.Native.Nat.{ℕ, _≤_, _<_};
+ghost use lib.ListN.{length};
+ghost use Rattle.lists.specs.Put.{put};
+ghost use Rattle.lists.specs.Choice.{pick};
+ghost use Rattle.codes.specs.Code.{whatIn, hasValue, textIn, event, decode};
+ghost use Rattle.writer.specs.Written.{page, written, onPage, Fits, Room};
+
+// Bytes, tokens and lines written.
+pub struct Cursor {
+    pub text: usize,
+    pub tokens: usize,
+    pub lines: usize,
+}
+
+// The text of a code, in the rest of the lent text; answers the bytes it added.
+fn write_text(out: &mut [u8], tables: &[u8], rec: &[u8], c: u64, v: u64) -> usize
+    requires { ⌜ length (textIn (now tables) (now rec) c v) ≤ length (now out) ⌝ }
+    ensures count { λ r. ⌜ r ≡ length (textIn (now (tables .entry)) (now (rec .entry)) c v) ⌝ }
+    ensures text { λ _. ⌜ now (out .exit) ≡ put 0 (textIn (now (tables .entry)) (now (rec .entry)) c v) (now (out .entry)) ⌝ }
+{
+    let what = c / 16 % 16;
+    let at = (c / 16777216) as usize;
+    let n = (c / 256 % 65536) as usize;
+    if what == 0 {
+        return put_bytes(out, part(tables, at, n));
+    }
+    if what == 1 {
+        return put_bytes(out, part(rec, at, n));
+    }
+    if what == 2 {
+        return write_num(out, false, v);
+    }
+    if what == 3 {
+        return write_num(out, true, v);
+    }
+    if what == 4 {
+        return write_prefixed(out, part(tables, at + 2, u8_at(tables, at + 1) as usize), v);
+    }
+    put_literal(out, what == 6, part(rec, at, n))
+}
+
+// A token: where it goes on with the one before its end and kind take that one's place.
+fn write_token(
+    text: &mut [u8],
+    ends: &mut [u32],
+    kinds: &mut [u8],
+    p: Cursor,
+    tables: &[u8],
+    rec: &[u8],
+    c: u64,
+    v: u64,
+) -> Cursor
+    requires { ⌜ whatIn c < 7 ⌝ }
+    requires { ⌜ Fits (length (now text)) (length (now ends)) (length (now kinds)) 0 p (event (now tables) (now rec) c v) ⌝ }
+    ensures { λ r. ⌜ ((l : List ℕ) → page (now (text .exit)) (now (ends .exit)) (now (kinds .exit)) l r
+        ≡ written (page (now (text .entry)) (now (ends .entry)) (now (kinds .entry)) l p) (event (now (tables .entry)) (now (rec .entry)) c v)) ⌝ }
+{
+    let rest = &mut text[p.text..];
+    let n = write_text(rest, tables, rec, c, v);
+    let k = if c / 8 % 2 == 1 { p.tokens - 1 } else { p.tokens };
+    let end = p.text + n;
+    ends[k] = end as u32;
+    kinds[k] = (c % 8) as u8;
+    Cursor {
+        text: end,
+        tokens: k + 1,
+        lines: p.lines,
+    }
+}
+
+// One code with its value.
+fn write_code(
+    text: &mut [u8],
+    ends: &mut [u32],
+    kinds: &mut [u8],
+    lines: &mut [u32],
+    p: Cursor,
+    tables: &[u8],
+    rec: &[u8],
+    c: u64,
+    v: u64,
+) -> Cursor
+    requires { ⌜ Fits (length (now text)) (length (now ends)) (length (now kinds)) (length (now lines)) p (event (now tables) (now rec) c v) ⌝ }
+    ensures { λ r. ⌜ page (now (text .exit)) (now (ends .exit)) (now (kinds .exit)) (now (lines .exit)) r
+        ≡ written (page (now (text .entry)) (now (ends .entry)) (now (kinds .entry)) (now (lines .entry)) p) (event (now (tables .entry)) (now (rec .entry)) c v) ⌝ }
+{
+    if c / 16 % 16 < 7 {
+        return write_token(text, ends, kinds, p, tables, rec, c, v);
+    }
+    lines[p.lines] = p.tokens as u32;
+    Cursor {
+        text: p.text,
+        tokens: p.tokens,
+        lines: p.lines + 1,
+    }
+}
+
+// How many numbers a code takes.
+fn width(c: u64) -> usize
+    ensures { λ r. ⌜ r ≡ pick (hasValue c) 2 1 ⌝ }
+{
+    if (2 <= c / 16 % 16) & (c / 16 % 16 <= 4) {
+        2
+    } else {
+        1
+    }
+}
+
+// All codes of a list, for which there is room.
+pub fn write_codes(
+    text: &mut [u8],
+    ends: &mut [u32],
+    kinds: &mut [u8],
+    lines: &mut [u32],
+    p: Cursor,
+    tables: &[u8],
+    rec: &[u8],
+    codes: &[u64],
+) -> Cursor
+    requires { ⌜ Room (length (now text)) (length (now ends)) (length (now kinds)) (length (now lines)) p (decode (now tables) (now rec) (now codes)) ⌝ }
+    ensures { λ r. ⌜ page (now (text .exit)) (now (ends .exit)) (now (kinds .exit)) (now (lines .exit)) r
+        ≡ onPage (page (now (text .entry)) (now (ends .entry)) (now (kinds .entry)) (now (lines .entry)) p) (decode (now (tables .entry)) (now (rec .entry)) (now (codes .entry))) ⌝ }
+{
+    let mut r = p;
+    let mut i = 0;
+    while i < codes.len() {
+        let c = codes[i];
+        r = write_code(text, ends, kinds, lines, r, tables, rec, c, u64_in(codes, i + 1));
+        i += width(c);
+    }
+    r
+}
