@@ -1,3 +1,4 @@
 pub mod Code
 pub mod Coded
+pub mod State
 pub mod Tables
