@@ -5,6 +5,8 @@ use mathlib.Core.Bool.{Bool}
 use mathlib.Core.List.{List, [], _∷_, _++_, append-assoc}
 use Prim.Native.Nat.{ℕ, _+_, _<_}
 use native.Mathlib.Omega.{arith}
+use mir.Syntax.{w64}
+use mir.Val.{Fits}
 use lib.ListN.{length, getD, length-append}
 use Rattle.lists.specs.Choice.{pick}
 use Rattle.lists.specs.PutLaws.{put-none, put-append}
@@ -54,7 +56,8 @@ module _ (l l₁ : ℕ) (p p₁ : Bool) (a b : List Token) (e : l₁ ≡ lastKin
   marked-more = rw (e, q, counted-append) (sym (marked-append l (counted p a) (counted p b)))
 
 module _ (t s : List ℕ) where
-  pub coded-none : (c : List ℕ) → ((i : ℕ) → getD c i 0 < 18446744073709551616) → Coded t s c c []
+  -- what is known of each number of a lent list is enough
+  pub coded-none : (c : List ℕ) → ((i : ℕ) → Fits w64 (getD c i 0)) → Coded t s c c []
   unfolding counted textOf fresh lastKind marked
   coded-none c h =
       record {
