@@ -1,6 +1,6 @@
 -- What the writer of codes does: each token's bytes, end and kind stand in their places in the lent lists, and each line's token end.
 use mathlib.Core.Bool.{Bool}
-use mathlib.Core.List.{List, [], _∷_}
+use mathlib.Core.List.{List, [], _∷_, _++_}
 use Prim.Native.Nat.{ℕ, suc, _+_, _-_, _≤_, _<_}
 use lib.ListN.{length, set}
 use Rattle.lists.specs.Choice.{pick}
@@ -8,6 +8,7 @@ use Rattle.lists.specs.Put.{put}
 use Rattle.tokens.specs.Token.{Token}
 use Rattle.codes.specs.Code.{Event}
 use Rattle.codes.specs.Code.Event.{tok, end}
+use Rattle.codes.specs.Coded.{marked}
 use Rattle.writer.specs.declared.write.Cursor.{Cursor}
 
 -- the lent lists, and how much of them is written
@@ -60,3 +61,8 @@ Fits x e k l p end = (p .lines < l) × (p .tokens < 4294967296)
 abbrev pub Room : (x e k l : ℕ) → Cursor → List Event → Type 0
 Room x e k l p [] = Unit {0}
 Room x e k l p (ev ∷ es) = Fits x e k l p ev × Room x e k l (behind p ev) es
+
+-- lines of tokens in codes: each begins anew, and has an end
+unfoldable pub ofLines : List (List Token) → List Event
+ofLines [] = []
+ofLines (l ∷ ls) = marked 255 l ++ end ∷ ofLines ls

@@ -1,11 +1,11 @@
 // The writer: each token's bytes are stored once, in the rest of the lent text, and its end and kind beside them.
 use lists::parts::part;
-use lists::reads::u64_in;
 use lists::reads::u8_at;
+use lists::reads::u64_in;
 use lists::stores::put_bytes;
-use text::literal::put_literal;
 use text::digits::write_num;
 use text::digits::write_prefixed;
+use text::literal::put_literal;
 ghost use mathlib.Core.Path.{_≡_};
 ghost use mathlib.Core.List.{List};
 ghost use Prim.Native.Nat.{ℕ, _≤_, _<_};
@@ -13,7 +13,7 @@ ghost use lib.ListN.{length};
 ghost use Rattle.lists.specs.Put.{put};
 ghost use Rattle.lists.specs.Choice.{pick};
 ghost use Rattle.codes.specs.Code.{whatIn, hasValue, textIn, event, decode};
-ghost use Rattle.writer.specs.Written.{page, written, onPage, Fits, Room};
+ghost use Rattle.writer.specs.Written.{page, placeFor, written, onPage, Fits, Room};
 
 // Bytes, tokens and lines written.
 pub struct Cursor {
@@ -49,6 +49,19 @@ fn write_text(out: &mut [u8], tables: &[u8], rec: &[u8], c: u64, v: u64) -> usiz
     put_literal(out, what == 6, part(rec, at, n))
 }
 
+// The place of a token's end and kind.
+fn place_for(joins: bool, tokens: usize) -> usize
+    ensures { λ r. ⌜ r ≡ placeFor joins tokens ⌝ }
+{
+    if joins {
+        if tokens == 0 {
+            return 0;
+        }
+        return tokens - 1;
+    }
+    tokens
+}
+
 // A token: where it goes on with the one before its end and kind take that one's place.
 fn write_token(
     text: &mut [u8],
@@ -65,10 +78,10 @@ fn write_token(
     ensures { λ r. ⌜ ((l : List ℕ) → page (now (text .exit)) (now (ends .exit)) (now (kinds .exit)) l r
         ≡ written (page (now (text .entry)) (now (ends .entry)) (now (kinds .entry)) l p) (event (now (tables .entry)) (now (rec .entry)) c v)) ⌝ }
 {
-    let rest = &mut text[p.text..];
-    let n = write_text(rest, tables, rec, c, v);
-    let k = if c / 8 % 2 == 1 { p.tokens - 1 } else { p.tokens };
-    let end = p.text + n;
+    let at = p.text;
+    let n = write_text(&mut text[at..], tables, rec, c, v);
+    let k = place_for(c / 8 % 2 == 1, p.tokens);
+    let end = at + n;
     ends[k] = end as u32;
     kinds[k] = (c % 8) as u8;
     Cursor {
@@ -97,11 +110,12 @@ fn write_code(
     if c / 16 % 16 < 7 {
         return write_token(text, ends, kinds, p, tables, rec, c, v);
     }
-    lines[p.lines] = p.tokens as u32;
+    let i = p.lines;
+    lines[i] = p.tokens as u32;
     Cursor {
         text: p.text,
         tokens: p.tokens,
-        lines: p.lines + 1,
+        lines: i + 1,
     }
 }
 
@@ -135,7 +149,17 @@ pub fn write_codes(
     let mut i = 0;
     while i < codes.len() {
         let c = codes[i];
-        r = write_code(text, ends, kinds, lines, r, tables, rec, c, u64_in(codes, i + 1));
+        r = write_code(
+            text,
+            ends,
+            kinds,
+            lines,
+            r,
+            tables,
+            rec,
+            c,
+            u64_in(codes, i + 1),
+        );
         i += width(c);
     }
     r

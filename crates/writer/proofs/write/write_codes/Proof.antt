@@ -1,0 +1,107 @@
+-- `write::write_codes` meets its contract.
+-- The invariant: writing the codes left from here gives the page that writing all gives from the start, and there is room for them.
+use borrow.Author.Needs.{needs}
+use mathlib.Core.Path.{_≡_, refl, _∙_}
+use Prim.Native.Nat.{_-_}
+use native.Mathlib.Omega.{arith}
+use lib.ListN.{length, drop, getD}
+use Rattle.codes.specs.Code.{hasValue, decode}
+use Rattle.writer.specs.Written.{page, onPage, Room}
+use Rattle.writer.proofs.PageLaws.{turn, turn-room, room-at, done, width-few}
+use Rattle.writer.proofs.write.write_codes.Statement.{statement}
+use Rattle.writer.proofs.write.write_codes.Tie as tie
+
+abbrev Inv-loop : tie.InvT-loop
+Inv-loop text₀ ends₀ kinds₀ lines₀ tables rec codes r₀ i₀ text ends kinds lines r i =
+    (length text ≡ length text₀) × (length ends ≡ length ends₀) × (length kinds ≡ length kinds₀) × (length lines ≡ length lines₀)
+    × (onPage (page text ends kinds lines r) (decode tables rec (drop i codes)) ≡ onPage (page text₀ ends₀ kinds₀ lines₀ r₀) (decode tables rec codes))
+    × Room (length text) (length ends) (length kinds) (length lines) r (decode tables rec (drop i codes))
+
+abbrev μ-loop : tie.MeasureT-loop
+μ-loop text₀ ends₀ kinds₀ lines₀ tables rec codes r₀ i₀ text ends kinds lines r i = length codes - i
+
+loop-holds : tie.Need-loop-holds Inv-loop μ-loop
+loop-holds c = (refl, refl, refl, refl, refl, c .before .before .before .before .before .before .before .pre)
+
+mul-c : tie.Need-mul-c Inv-loop μ-loop
+mul-c c = search needs
+
+shared-slice-read-c : tie.Need-shared-slice-read-c Inv-loop μ-loop
+shared-slice-read-c c = search needs
+
+add-u64-in : tie.Need-add-u64-in Inv-loop μ-loop
+add-u64-in c = omega (arith, c .before .before .before .before .before .loop-test .taken, c .before .before .before .before .before .before .before .before .before .before .before .before .before .before .good)
+
+u64-in-requires : tie.Need-u64-in-requires Inv-loop μ-loop
+u64-in-requires c κs = search needs
+
+write-code-requires : tie.Need-write-code-requires Inv-loop μ-loop
+write-code-requires c κs =
+    let a = c .before .before .before .before .before .before .before .before .before .before .before .before .before .before .before .args in
+    let l = c .before .before .before .before .before .before .before .loop in
+    room-at (a .tables .now) (a .rec .now) (a .codes .now) (l .i) (c .u64-in .result) (c .before .before .before .before .before .before .loop-test .taken) (c .u64-in .ensures .0)
+    (length (l .text)) (length (l .ends)) (length (l .kinds)) (length (l .lines)) (l .r) (l .inv .5)
+
+width-requires : tie.Need-width-requires Inv-loop μ-loop
+width-requires c κs = search needs
+
+add-i : tie.Need-add-i Inv-loop μ-loop
+add-i c =
+    let f = width-few (hasValue (getD (c .before .before .before .before .before .before .before .before .before .before .before .before .before .before .before .before .before .before .before .before .before .before .before .before .before .args .codes .now) (c .before .before .before .before .before .before .before .before .before .before .before .before .before .before .before .before .before .loop .i) 0)) (c .width .result) (c .width .ensures) in
+    omega (arith, f .1, c .before .before .before .before .before .before .before .before .before .before .before .before .before .before .before .before .loop-test .taken, c .before .before .before .before .before .before .before .before .before .before .before .before .before .before .before .before .before .before .before .before .before .before .before .before .before .good)
+
+loop-less : tie.Need-loop-less Inv-loop μ-loop
+loop-less c =
+    let f = width-few (hasValue (getD (c .before .before .before .before .before .before .before .before .before .before .before .before .before .before .before .before .before .before .before .before .before .before .before .before .before .args .codes .now) (c .before .before .before .before .before .before .before .before .before .before .before .before .before .before .before .before .before .loop .i) 0)) (c .width .result) (c .width .ensures) in
+    omega (arith, f .0, c .before .before .before .before .before .before .before .before .before .before .before .before .before .before .before .before .loop-test .taken)
+
+loop-again : tie.Need-loop-again Inv-loop μ-loop
+loop-again c =
+    let h = c .before .before .before .before .before .before .before .before .before .before .before .before .before .before .before .before .loop-test .taken in
+    let i = c .before .before .before .before .before .before .before .before .before .before .before .before .before .before .before .before .before .loop .inv in
+    let w = c .before .before .before .before .before .before .before .before .before .write-code in
+    let v = c .before .before .before .before .before .before .before .before .before .before .u64-in .ensures .0 in (
+      w .kept .0 ∙ i .0,
+      w .kept .1 .0 ∙ i .1,
+      w .kept .1 .1 .0 ∙ i .2,
+      w .kept .1 .1 .1 .0 ∙ i .3,
+      turn _ _ _ _ _ _ h (c .width .ensures) v _ _ _ _ _ _ _ _ _ _ (w .ensures) ∙ i .4,
+      turn-room _ _ _ _ _ _ h (c .width .ensures) v _ _ _ _ _ _ _ _ _ _ (w .ensures) (w .kept .0) (w .kept .1 .0) (w .kept .1 .1 .0) (w .kept .1 .1 .1 .0) (i .5),
+    )
+
+same-length : tie.Need-same-length Inv-loop μ-loop
+same-length c = omega arith
+
+same-length-2 : tie.Need-same-length-2 Inv-loop μ-loop
+same-length-2 c = omega arith
+
+same-length-3 : tie.Need-same-length-3 Inv-loop μ-loop
+same-length-3 c = omega arith
+
+same-length-4 : tie.Need-same-length-4 Inv-loop μ-loop
+same-length-4 c = omega arith
+
+returns : tie.Need-returns Inv-loop μ-loop
+returns c = done _ _ _ _ _ (c .loop-test .left) ∙ c .before .loop .inv .4
+
+pub write-codes-spec : {M : Type 1} → statement M
+write-codes-spec =
+    tie.close
+    (tie.spec
+    Inv-loop
+    μ-loop
+    loop-holds
+    mul-c
+    shared-slice-read-c
+    add-u64-in
+    u64-in-requires
+    write-code-requires
+    width-requires
+    add-i
+    loop-less
+    loop-again
+    same-length
+    same-length-2
+    same-length-3
+    same-length-4
+    returns)
