@@ -1,4 +1,5 @@
 pub mod Code
 pub mod Coded
+pub mod Spelled
 pub mod State
 pub mod Tables

@@ -1,2 +1,3 @@
 pub mod LiteralLaws
 pub mod DigitLaws
+pub mod ByteLaws

@@ -36,7 +36,7 @@ fn spelling_length(b: u8) -> usize
 }
 
 // The spelling of a byte: of most the byte itself.
-fn escape_length(b: u8) -> usize
+pub fn escape_length(b: u8) -> usize
     ensures { λ r. ⌜ (r ≡ length (escape b)) × (r ≤ 6) ⌝ }
 {
     if (b < 0x20) | (b == 0x7f) | (b == 39) | (b == 34) | (b == 92) {
@@ -59,7 +59,7 @@ fn escapes_length(s: &[u8]) -> usize
     sum
 }
 
-fn opening_length(wide: bool) -> usize
+pub fn opening_length(wide: bool) -> usize
     ensures { λ r. ⌜ (r ≡ length (opening wide)) × (r ≤ 2) ⌝ }
 {
     if wide { 2 } else { 1 }
