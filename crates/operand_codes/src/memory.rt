@@ -1,0 +1,370 @@
+// Memory operands as token codes, read or as an address.
+use crate::names::code_found;
+use codes::code::code_num;
+use codes::code::code_prefixed;
+use codes::code::code_register;
+use codes::code::code_word;
+use operand::names::entry_at;
+use operand::names::is_literal;
+use operand::slots::displacement;
+use operand::slots::is_slot;
+use operand::slots::slot_base;
+use operand::slots::slot_number;
+use record::body::memory_address;
+use record::body::memory_base;
+use record::body::memory_index;
+use record::body::memory_index_scale;
+use record::body::memory_segment;
+use record::body::memory_size;
+use record::header::Header;
+use tokens::words::ADDRESS_OF;
+use tokens::words::ARG;
+use tokens::words::AT_U8;
+use tokens::words::BYTE;
+use tokens::words::CLOSE;
+use tokens::words::MINUS;
+use tokens::words::OPEN;
+use tokens::words::PLUS;
+use tokens::words::READ_FS_BYTE;
+use tokens::words::READ_FS_DWORD;
+use tokens::words::READ_FS_QWORD;
+use tokens::words::READ_GS_BYTE;
+use tokens::words::READ_GS_DWORD;
+use tokens::words::READ_GS_QWORD;
+use tokens::words::TIMES;
+use tokens::words::VAR;
+use x86::registers::is_stack_pointer;
+use x86::sizes::prefix_index;
+use x86::sizes::size_index;
+ghost use mathlib.Core.Bool.{true, false, _||_};
+ghost use mathlib.Core.List.{List, [], _∷_};
+ghost use mathlib.Core.Path.{_≡_};
+ghost use Prim.Native.Nat.{ℕ, _≤_};
+ghost use lib.ListN.{length};
+ghost use Rattle.lists.specs.Choice.{pick};
+ghost use Rattle.tokens.specs.Token.{punct};
+ghost use Rattle.tokens.specs.Words.{wordToken};
+ghost use Rattle.codes.specs.Coded.{Coded};
+ghost use Rattle.codes.specs.Tables.{tableBytes};
+ghost use Rattle.operand.specs.Expr.{wrap};
+ghost use Rattle.operand.specs.Memory.{number, typeWord, prefixWord, segmentWord, segmentRead, global, slotToken, addressOf, scaled, registers, addressExpr, address, isSegmentRead, isGlobal, memTokens};
+ghost use Rattle.operand_codes.specs.Lent.{Lent};
+
+// The word that reads a segment register's memory.
+fn segment_word(seg: u8, size: u16) -> u8
+    ensures { λ r. ⌜ r ≡ segmentWord seg size ⌝ }
+{
+    if seg == 0x75 {
+        if size == 8 {
+            return READ_GS_QWORD;
+        }
+        return if size == 4 {
+            READ_GS_DWORD
+        } else {
+            READ_GS_BYTE
+        };
+    }
+    if size == 8 {
+        return READ_FS_QWORD;
+    }
+    if size == 4 {
+        READ_FS_DWORD
+    } else {
+        READ_FS_BYTE
+    }
+}
+
+// A number in parentheses.
+fn code_argument(
+    codes: &mut [u64],
+    tables: &[u8],
+    v: u64,
+)
+    requires { ⌜ (5 ≤ length (now codes)) × (now tables ≡ tableBytes) ⌝ }
+    ensures { λ _. ⌜ ((s : List ℕ) → Coded (now (tables .entry)) s (now (codes .entry)) (now (codes .exit)) (punct "(" ∷ number false v ∷ punct ")" ∷ [])) ⌝ }
+{
+    code_word(codes, tables, OPEN);
+    code_num(codes, false, v);
+    code_word(codes, tables, CLOSE)
+}
+
+// A read by fs or gs.
+fn code_segment(
+    codes: &mut [u64],
+    tables: &[u8],
+    body: &[u8],
+)
+    requires { ⌜ (5 ≤ length (now codes)) × (now tables ≡ tableBytes) ⌝ }
+    ensures { λ _. ⌜ ((s : List ℕ) → Coded (now (tables .entry)) s (now (codes .entry)) (now (codes .exit)) (segmentRead (now (body .entry)))) ⌝ }
+{
+    let w = segment_word(memory_segment(body), memory_size(body));
+    code_word(codes, tables, w);
+    code_argument(codes, tables, memory_address(body))
+}
+
+// The prefix of a global of a size.
+fn prefix_word(size: u16) -> u8
+    ensures { λ r. ⌜ r ≡ prefixWord size ⌝ }
+{
+    BYTE + prefix_index(size)
+}
+
+// A global: the atlas is searched once, for the `&` and for the token.
+fn code_global(
+    codes: &mut [u64],
+    tables: &[u8],
+    rec: &[u8],
+    h: Header,
+    body: &[u8],
+    deref: bool,
+)
+    requires { ⌜ Lent (now codes) (now tables) h (now rec) ⌝ }
+    ensures { λ _. ⌜ Coded (now (tables .entry)) (now (rec .entry)) (now (codes .entry)) (now (codes .exit)) (global h (now (rec .entry)) deref (now (body .entry))) ⌝ }
+{
+    let va = memory_address(body);
+    let found = entry_at(rec, h, va);
+    let w = prefix_word(memory_size(body));
+    if deref | is_literal(rec, h, found) {
+        return code_found(codes, tables, rec, h, found, va, w);
+    }
+    code_word(codes, tables, ADDRESS_OF);
+    code_found(codes, tables, rec, h, found, va, w)
+}
+
+// The word of a slot.
+fn slot_word(sp: bool, negative: bool) -> u8
+    ensures { λ r. ⌜ r ≡ pick (sp || negative) 92 93 ⌝ }
+{
+    if sp | negative { VAR } else { ARG }
+}
+
+// A stack slot.
+fn code_slot(
+    codes: &mut [u64],
+    tables: &[u8],
+    h: Header,
+    body: &[u8],
+    deref: bool,
+)
+    requires { ⌜ (5 ≤ length (now codes)) × (now tables ≡ tableBytes) ⌝ }
+    ensures { λ _. ⌜ ((s : List ℕ) → Coded (now (tables .entry)) s (now (codes .entry)) (now (codes .exit)) (addressOf deref (slotToken h (now (body .entry))))) ⌝ }
+{
+    let n = slot_number(h, body);
+    let w = slot_word(is_stack_pointer(slot_base(h, body)), n.negative);
+    if deref {
+        return code_prefixed(codes, tables, w, n.size);
+    }
+    code_word(codes, tables, ADDRESS_OF);
+    code_prefixed(codes, tables, w, n.size)
+}
+
+// A parenthesis, or nothing.
+fn code_if(
+    codes: &mut [u64],
+    tables: &[u8],
+    w: u8,
+    wanted: bool,
+)
+    requires { ⌜ (5 ≤ length (now codes)) × (now tables ≡ tableBytes) ⌝ }
+    ensures { λ _. ⌜ ((s : List ℕ) → Coded (now (tables .entry)) s (now (codes .entry)) (now (codes .exit)) (pick wanted (wordToken w ∷ []) [])) ⌝ }
+{
+    if wanted {
+        return code_word(codes, tables, w);
+    }
+}
+
+// The index with its scale.
+fn code_scaled(
+    codes: &mut [u64],
+    tables: &[u8],
+    body: &[u8],
+)
+    requires { ⌜ (5 ≤ length (now codes)) × (now tables ≡ tableBytes) ⌝ }
+    ensures { λ _. ⌜ ((s : List ℕ) → Coded (now (tables .entry)) s (now (codes .entry)) (now (codes .exit)) (scaled (now (body .entry)) .tokens)) ⌝ }
+{
+    code_register(codes, tables, memory_index(body));
+    let scale = memory_index_scale(body);
+    if 1 < scale {
+        code_word(codes, tables, TIMES);
+        return code_num(codes, false, scale as u64);
+    }
+}
+
+// The same, in parentheses where it is scaled.
+fn code_wrapped_index(
+    codes: &mut [u64],
+    tables: &[u8],
+    body: &[u8],
+)
+    requires { ⌜ (5 ≤ length (now codes)) × (now tables ≡ tableBytes) ⌝ }
+    ensures { λ _. ⌜ ((s : List ℕ) → Coded (now (tables .entry)) s (now (codes .entry)) (now (codes .exit)) (wrap (scaled (now (body .entry))))) ⌝ }
+{
+    let loose = 1 < memory_index_scale(body);
+    code_if(codes, tables, OPEN, loose);
+    code_scaled(codes, tables, body);
+    code_if(codes, tables, CLOSE, loose)
+}
+
+// Base and index.
+fn code_registers(
+    codes: &mut [u64],
+    tables: &[u8],
+    h: Header,
+    body: &[u8],
+)
+    requires { ⌜ (5 ≤ length (now codes)) × (now tables ≡ tableBytes) ⌝ }
+    ensures { λ _. ⌜ ((s : List ℕ) → Coded (now (tables .entry)) s (now (codes .entry)) (now (codes .exit)) (registers h (now (body .entry)) .tokens)) ⌝ }
+{
+    let base = slot_base(h, body);
+    if memory_index(body) == 0 {
+        return code_register(codes, tables, base);
+    }
+    if base == 0 {
+        return code_scaled(codes, tables, body);
+    }
+    code_register(codes, tables, base);
+    code_word(codes, tables, PLUS);
+    code_wrapped_index(codes, tables, body)
+}
+
+fn registers_loose(h: Header, body: &[u8]) -> bool
+    ensures { λ r. ⌜ r ≡ registers h (now (body .entry)) .loose ⌝ }
+{
+    if memory_index(body) == 0 {
+        return false;
+    }
+    if slot_base(h, body) == 0 {
+        return 1 < memory_index_scale(body);
+    }
+    true
+}
+
+// The same, in parentheses where there are two.
+fn code_wrapped_registers(
+    codes: &mut [u64],
+    tables: &[u8],
+    h: Header,
+    body: &[u8],
+)
+    requires { ⌜ (5 ≤ length (now codes)) × (now tables ≡ tableBytes) ⌝ }
+    ensures { λ _. ⌜ ((s : List ℕ) → Coded (now (tables .entry)) s (now (codes .entry)) (now (codes .exit)) (wrap (registers h (now (body .entry))))) ⌝ }
+{
+    let loose = registers_loose(h, body);
+    code_if(codes, tables, OPEN, loose);
+    code_registers(codes, tables, h, body);
+    code_if(codes, tables, CLOSE, loose)
+}
+
+// The word between registers and displacement.
+fn sign_word(negative: bool) -> u8
+    ensures { λ r. ⌜ wordToken r ≡ pick negative (punct " - ") (punct " + ") ⌝ }
+{
+    if negative { MINUS } else { PLUS }
+}
+
+// An address.
+fn code_address(
+    codes: &mut [u64],
+    tables: &[u8],
+    h: Header,
+    body: &[u8],
+)
+    requires { ⌜ (5 ≤ length (now codes)) × (now tables ≡ tableBytes) ⌝ }
+    ensures { λ _. ⌜ ((s : List ℕ) → Coded (now (tables .entry)) s (now (codes .entry)) (now (codes .exit)) (addressExpr h (now (body .entry)) .tokens)) ⌝ }
+{
+    let d = displacement(h, body);
+    if d.size == 0 {
+        return code_registers(codes, tables, h, body);
+    }
+    code_wrapped_registers(codes, tables, h, body);
+    code_word(codes, tables, sign_word(d.negative));
+    code_num(codes, false, d.size)
+}
+
+fn address_loose(h: Header, body: &[u8]) -> bool
+    ensures { λ r. ⌜ r ≡ addressExpr h (now (body .entry)) .loose ⌝ }
+{
+    let d = displacement(h, body);
+    if d.size == 0 {
+        return registers_loose(h, body);
+    }
+    true
+}
+
+// The same, in parentheses where there is more than a register.
+fn code_wrapped_address(
+    codes: &mut [u64],
+    tables: &[u8],
+    h: Header,
+    body: &[u8],
+)
+    requires { ⌜ (5 ≤ length (now codes)) × (now tables ≡ tableBytes) ⌝ }
+    ensures { λ _. ⌜ ((s : List ℕ) → Coded (now (tables .entry)) s (now (codes .entry)) (now (codes .exit)) (wrap (addressExpr h (now (body .entry))))) ⌝ }
+{
+    let loose = address_loose(h, body);
+    code_if(codes, tables, OPEN, loose);
+    code_address(codes, tables, h, body);
+    code_if(codes, tables, CLOSE, loose)
+}
+
+// The word of a size that is read.
+fn type_word(size: u16) -> u8
+    ensures { λ r. ⌜ r ≡ typeWord size ⌝ }
+{
+    AT_U8 + size_index(size)
+}
+
+// A read at an address.
+fn code_read(
+    codes: &mut [u64],
+    tables: &[u8],
+    h: Header,
+    body: &[u8],
+)
+    requires { ⌜ (5 ≤ length (now codes)) × (now tables ≡ tableBytes) ⌝ }
+    ensures { λ _. ⌜ ((s : List ℕ) → Coded (now (tables .entry)) s (now (codes .entry)) (now (codes .exit)) (address h true (now (body .entry)) .tokens)) ⌝ }
+{
+    code_word(codes, tables, type_word(memory_size(body)));
+    code_wrapped_address(codes, tables, h, body)
+}
+
+fn is_segment_read(body: &[u8]) -> bool
+    ensures { λ r. ⌜ r ≡ isSegmentRead (now (body .entry)) ⌝ }
+{
+    let seg = memory_segment(body);
+    ((seg == 0x74) | (seg == 0x75)) & (memory_base(body) == 0) & (memory_index(body) == 0)
+}
+
+fn is_global(body: &[u8]) -> bool
+    ensures { λ r. ⌜ r ≡ isGlobal (now (body .entry)) ⌝ }
+{
+    let base = memory_base(body);
+    (base == 0x60) | (base == 0x61) | ((base == 0) & (memory_index(body) == 0))
+}
+
+// A memory operand, read or as an address.
+pub fn mem(
+    codes: &mut [u64],
+    tables: &[u8],
+    rec: &[u8],
+    h: Header,
+    body: &[u8],
+    deref: bool,
+)
+    requires { ⌜ Lent (now codes) (now tables) h (now rec) ⌝ }
+    ensures { λ _. ⌜ Coded (now (tables .entry)) (now (rec .entry)) (now (codes .entry)) (now (codes .exit)) (memTokens h (now (rec .entry)) deref (now (body .entry))) ⌝ }
+{
+    if is_segment_read(body) {
+        return code_segment(codes, tables, body);
+    }
+    if is_global(body) {
+        return code_global(codes, tables, rec, h, body, deref);
+    }
+    if is_slot(h, body) {
+        return code_slot(codes, tables, h, body, deref);
+    }
+    if deref {
+        return code_read(codes, tables, h, body);
+    }
+    code_address(codes, tables, h, body)
+}
