@@ -1,4 +1,2 @@
 // Operands as token codes, beside `operand`, which stores their texts.
-pub mod memory;
 pub mod names;
-pub mod operand;
