@@ -67,7 +67,7 @@ pub fn push_register(
 }
 
 // The word that reads a segment register's memory.
-fn segment_word(seg: u8, size: u16) -> u8
+pub fn segment_word(seg: u8, size: u16) -> u8
     ensures { λ r. ⌜ r ≡ segmentWord seg size ⌝ }
 {
     if seg == 0x75 {
@@ -127,7 +127,7 @@ fn push_segment(
 }
 
 // The prefix of a global of a size.
-fn prefix_word(size: u16) -> u8
+pub fn prefix_word(size: u16) -> u8
     ensures { λ r. ⌜ r ≡ prefixWord size ⌝ }
 {
     BYTE + prefix_index(size)
@@ -160,7 +160,7 @@ fn push_global(
 }
 
 // The word of a slot.
-fn slot_word(sp: bool, negative: bool) -> u8
+pub fn slot_word(sp: bool, negative: bool) -> u8
     ensures { λ r. ⌜ r ≡ pick (sp || negative) 92 93 ⌝ }
 {
     if sp | negative { VAR } else { ARG }
@@ -280,7 +280,7 @@ fn push_registers(
     push_wrapped_index(text, ends, kinds, pen, words, isa, body)
 }
 
-fn registers_loose(h: Header, body: &[u8]) -> bool
+pub fn registers_loose(h: Header, body: &[u8]) -> bool
     ensures { λ r. ⌜ r ≡ registers h (now (body .entry)) .loose ⌝ }
 {
     if memory_index(body) == 0 {
@@ -314,7 +314,7 @@ fn push_wrapped_registers(
 }
 
 // The word between registers and displacement.
-fn sign_word(negative: bool) -> u8
+pub fn sign_word(negative: bool) -> u8
     ensures { λ r. ⌜ wordToken r ≡ pick negative (punct " - ") (punct " + ") ⌝ }
 {
     if negative { MINUS } else { PLUS }
@@ -344,7 +344,7 @@ fn push_address(
     push_num(text, ends, kinds, pen, false, d.size)
 }
 
-fn address_loose(h: Header, body: &[u8]) -> bool
+pub fn address_loose(h: Header, body: &[u8]) -> bool
     ensures { λ r. ⌜ r ≡ addressExpr h (now (body .entry)) .loose ⌝ }
 {
     let d = displacement(h, body);
@@ -376,7 +376,7 @@ fn push_wrapped_address(
 }
 
 // The word of a size that is read.
-fn type_word(size: u16) -> u8
+pub fn type_word(size: u16) -> u8
     ensures { λ r. ⌜ r ≡ typeWord size ⌝ }
 {
     AT_U8 + size_index(size)
@@ -401,14 +401,14 @@ fn push_read(
     push_wrapped_address(text, ends, kinds, pen, words, isa, h, body)
 }
 
-fn is_segment_read(body: &[u8]) -> bool
+pub fn is_segment_read(body: &[u8]) -> bool
     ensures { λ r. ⌜ r ≡ isSegmentRead (now (body .entry)) ⌝ }
 {
     let seg = memory_segment(body);
     ((seg == 0x74) | (seg == 0x75)) & (memory_base(body) == 0) & (memory_index(body) == 0)
 }
 
-fn is_global(body: &[u8]) -> bool
+pub fn is_global(body: &[u8]) -> bool
     ensures { λ r. ⌜ r ≡ isGlobal (now (body .entry)) ⌝ }
 {
     let base = memory_base(body);

@@ -27,7 +27,7 @@ ghost use Rattle.operand.specs.Operand.{immediateNumber, immediate, opTo
 ghost use Rattle.operand.specs.Tables.{Rising, Tables};
 
 // Whether an immediate is an address in a span.
-fn is_address(rec: &[u8], h: Header, v: u64) -> bool
+pub fn is_address(rec: &[u8], h: Header, v: u64) -> bool
     ensures { λ r. ⌜ r ≡ (leb 0x1000 v && inSpan h (now (rec .entry)) v) ⌝ }
 {
     if v < 0x1000 {

@@ -1,0 +1,2 @@
+// Operands as token codes, beside `operand`, which stores their texts.
+pub mod names;
