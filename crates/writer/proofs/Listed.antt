@@ -18,10 +18,10 @@ use Rattle.lists.specs.PutLaws.{put-append, put-none, put-cons}
 use Rattle.tokens.specs.Token.{Token}
 use Rattle.tokens.specs.Listing.{textOf, endsFrom, kindsOf, glued, glue, run, join, all, countsFrom, listing, bytesOf}
 use Rattle.tokens.specs.ListingLaws.{text-append, ends-append, kinds-append, ends-length, kinds-length, glued-kind, run-glued, run-apart, run-last, cases, all-bytes, lines-length}
-use Rattle.codes.specs.Code.{Event}
+use Rattle.codes.specs.Code.{Event, decode}
 use Rattle.codes.specs.Code.Event.{tok, end}
 use Rattle.codes.specs.Coded.{joinsLast, fresh, marked}
-use Rattle.writer.specs.Written.{Page, page, behind, written, onPage, Room, ofLines}
+use Rattle.writer.specs.Written.{Page, page, start, behind, written, onPage, Room, ofLines, Listed, Ready}
 use Rattle.writer.specs.declared.write.Cursor.{Cursor}
 
 -- what a page P has become, P′: the tokens ts and the line ends ns more
@@ -150,19 +150,6 @@ lines-wrote P (l ∷ ls) =
     rw (page-append P (marked 255 l) (end ∷ ofLines ls), page-cons Q end (ofLines ls), ← w .count)
     (wrote-more P Q (onPage (written Q end) (ofLines ls)) (join l) (all ls) [] (Q .at .tokens ∷ countsFrom (Q .at .tokens) ls) w m)
 
-abbrev pub start : Cursor
-start = record { text = 0; tokens = 0; lines = 0 }
-
--- the listing stands on the page, from the start of each list on
-pub record Listed (ls : List (List Token)) (P P′ : Page) : Type 0 where
-  pub text : P′ .text ≡ put 0 (listing ls .text) (P .text)
-  pub ends : P′ .ends ≡ put 0 (listing ls .ends) (P .ends)
-  pub kinds : P′ .kinds ≡ put 0 (listing ls .kinds) (P .kinds)
-  pub lines : P′ .lines ≡ put 0 (listing ls .lines) (P .lines)
-  pub bytes : P′ .at .text ≡ length (listing ls .text)
-  pub count : P′ .at .tokens ≡ length (listing ls .ends)
-  pub next : P′ .at .lines ≡ length (listing ls .lines)
-
 pub listed : (ls : List (List Token)) (x e k l : List ℕ) → Listed ls (page x e k l start) (onPage (page x e k l start) (ofLines ls))
 unfolding listing
 listed ls x e k l =
@@ -257,3 +244,11 @@ room-listed ls x e k l a b c d f g =
     let o = kinds-length (all ls) in
     let q = lines-length ls in
     room-lines (length x) (length e) (length k) (length l) ls start (omega (arith, m)) (omega (arith, m)) (omega (arith, n)) (omega (arith, o)) (omega (arith, n)) (omega (arith, q))
+
+-- codes of lines that the lists have room for
+pub ready-room : (t s c x e k l : List ℕ) → Ready t s c (length x) (length e) (length k) (length l) → Room (length x) (length e) (length k) (length l) start (decode t s c)
+ready-room t s c x e k l r = rw (r .codes) (room-listed (r .of) x e k l (r .text) (r .ends) (r .kinds) (r .lines) (r .small-text) (r .small-tokens))
+
+pub codes-listed : (t s c x x′ e e′ k k′ l l′ : List ℕ) (r : Cursor) → page x′ e′ k′ l′ r ≡ onPage (page x e k l start) (decode t s c)
+    → (ls : List (List Token)) → decode t s c ≡ ofLines ls → Listed ls (page x e k l start) (page x′ e′ k′ l′ r)
+codes-listed t s c x x′ e e′ k k′ l l′ r p ls q = rw (p, q) (listed ls x e k l)

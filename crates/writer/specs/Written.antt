@@ -1,12 +1,14 @@
 -- What the writer of codes does: each token's bytes, end and kind stand in their places in the lent lists, and each line's token end.
 use mathlib.Core.Bool.{Bool}
+use mathlib.Core.Path.{_≡_}
 use mathlib.Core.List.{List, [], _∷_, _++_}
 use Prim.Native.Nat.{ℕ, suc, _+_, _-_, _≤_, _<_}
 use lib.ListN.{length, set}
 use Rattle.lists.specs.Choice.{pick}
 use Rattle.lists.specs.Put.{put}
 use Rattle.tokens.specs.Token.{Token}
-use Rattle.codes.specs.Code.{Event}
+use Rattle.tokens.specs.Listing.{listing}
+use Rattle.codes.specs.Code.{Event, decode}
 use Rattle.codes.specs.Code.Event.{tok, end}
 use Rattle.codes.specs.Coded.{marked}
 use Rattle.writer.specs.declared.write.Cursor.{Cursor}
@@ -66,3 +68,28 @@ Room x e k l p (ev ∷ es) = Fits x e k l p ev × Room x e k l (behind p ev) es
 unfoldable pub ofLines : List (List Token) → List Event
 ofLines [] = []
 ofLines (l ∷ ls) = marked 255 l ++ end ∷ ofLines ls
+
+-- nothing is written yet
+abbrev pub start : Cursor
+start = record { text = 0; tokens = 0; lines = 0 }
+
+-- the lists of page P, with the listing of lines from their start on
+pub record Listed (ls : List (List Token)) (P P′ : Page) : Type 0 where
+  pub text : P′ .text ≡ put 0 (listing ls .text) (P .text)
+  pub ends : P′ .ends ≡ put 0 (listing ls .ends) (P .ends)
+  pub kinds : P′ .kinds ≡ put 0 (listing ls .kinds) (P .kinds)
+  pub lines : P′ .lines ≡ put 0 (listing ls .lines) (P .lines)
+  pub bytes : P′ .at .text ≡ length (listing ls .text)
+  pub count : P′ .at .tokens ≡ length (listing ls .ends)
+  pub next : P′ .at .lines ≡ length (listing ls .lines)
+
+-- codes of lines, for whose listing lists of x bytes, e and k tokens and l lines have room
+pub record Ready (t s c : List ℕ) (x e k l : ℕ) : Type 0 where
+  pub of : List (List Token)
+  pub codes : decode t s c ≡ ofLines of
+  pub text : length (listing of .text) ≤ x
+  pub ends : length (listing of .ends) ≤ e
+  pub kinds : length (listing of .kinds) ≤ k
+  pub lines : length (listing of .lines) ≤ l
+  pub small-text : length (listing of .text) < 4294967296
+  pub small-tokens : length (listing of .ends) < 4294967296

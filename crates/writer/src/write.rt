@@ -12,8 +12,9 @@ ghost use Prim.Native.Nat.{ℕ, _≤_, _<_};
 ghost use lib.ListN.{length};
 ghost use Rattle.lists.specs.Put.{put};
 ghost use Rattle.lists.specs.Choice.{pick};
+ghost use Rattle.tokens.specs.Token.{Token};
 ghost use Rattle.codes.specs.Code.{whatIn, hasValue, textIn, event, decode};
-ghost use Rattle.writer.specs.Written.{page, placeFor, written, onPage, Fits, Room};
+ghost use Rattle.writer.specs.Written.{page, placeFor, written, onPage, Fits, Room, start, ofLines, Listed, Ready};
 
 // Bytes, tokens and lines written.
 pub struct Cursor {
@@ -163,4 +164,26 @@ pub fn write_codes(
         i += width(c);
     }
     r
+}
+
+// The lines of a listing from their codes, from the start of the lists on.
+pub fn write_listing(
+    text: &mut [u8],
+    ends: &mut [u32],
+    kinds: &mut [u8],
+    lines: &mut [u32],
+    tables: &[u8],
+    rec: &[u8],
+    codes: &[u64],
+) -> Cursor
+    requires { ⌜ Ready (now tables) (now rec) (now codes) (length (now text)) (length (now ends)) (length (now kinds)) (length (now lines)) ⌝ }
+    ensures { λ r. ⌜ ((ls : List (List Token)) → decode (now (tables .entry)) (now (rec .entry)) (now (codes .entry)) ≡ ofLines ls
+        → Listed ls (page (now (text .entry)) (now (ends .entry)) (now (kinds .entry)) (now (lines .entry)) start) (page (now (text .exit)) (now (ends .exit)) (now (kinds .exit)) (now (lines .exit)) r)) ⌝ }
+{
+    let p = Cursor {
+        text: 0,
+        tokens: 0,
+        lines: 0,
+    };
+    write_codes(text, ends, kinds, lines, p, tables, rec, codes)
 }
