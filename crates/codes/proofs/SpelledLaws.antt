@@ -52,13 +52,13 @@ module _ (t s : List ℕ) where
   -- the code at index i, which takes n numbers and has m bytes of text
   module _ (cs : List ℕ) (i n v m k : ℕ) (h : i < length cs) (a : n ≡ pick (hasValue (getD cs i 0)) 2 1) (b : v ≡ getD cs (i + 1) 0)
       (e : m ≡ pick (leb 7 (whatIn (getD cs i 0))) 0 (length (textIn t s (getD cs i 0) v))) where
-    pub in-code : k < m → getD (spelled (decode t s (drop i cs))) k 0 ≡ getD (textIn t s (getD cs i 0) v) k 0
-    in-code l =
-        ap (λ (x : List Event). getD (spelled x) k 0) (decode-at t s cs i n v h a b) ∙ in-first (getD cs i 0) v m k (decode t s (drop (i + n) cs)) e l
+    pub in-code : (r x : ℕ) → k < m → r ≡ getD (textIn t s (getD cs i 0) v) k 0 → getD (spelled (decode t s (drop i cs))) k 0 ≡ x → r ≡ x
+    in-code r x l f g =
+        f ∙ sym (in-first (getD cs i 0) v m k (decode t s (drop (i + n) cs)) e l) ∙ sym (ap (λ (es : List Event). getD (spelled es) k 0) (decode-at t s cs i n v h a b)) ∙ g
 
     pub behind-code : m ≤ k → getD (spelled (decode t s (drop i cs))) k 0 ≡ getD (spelled (decode t s (drop (i + n) cs))) (k - m) 0
     behind-code l =
-        ap (λ (x : List Event). getD (spelled x) k 0) (decode-at t s cs i n v h a b) ∙ behind-first (getD cs i 0) v m k (decode t s (drop (i + n) cs)) e l
+        ap (λ (es : List Event). getD (spelled es) k 0) (decode-at t s cs i n v h a b) ∙ behind-first (getD cs i 0) v m k (decode t s (drop (i + n) cs)) e l
 
   pub behind-all : (cs : List ℕ) (i k : ℕ) → length cs ≤ i → getD (spelled (decode t s (drop i cs))) k 0 ≡ 0
   unfolding spelled decode

@@ -43,9 +43,9 @@ returns : tie.Need-returns Inv-loop μ-loop
 returns c =
     let a = c .before .before .before .before .before .before .before .before .before .before .args in
     let l = c .before .before .before .before .before .before .loop in
-    c .byte-in .ensures
-    ∙ sym (in-code (a .tables .now) (a .rec .now) (a .codes .now) (l .i) _ (c .before .before .before .u64-in .result) (c .before .before .length-of .result) (l .k) (c .before .before .before .before .before .loop-test .taken) refl (c .before .before .before .u64-in .ensures .0) (c .before .before .length-of .ensures) (c .before .if1 .taken))
-    ∙ l .inv
+    let u = c .before .before .before .u64-in in
+    let m = c .before .before .length-of in
+    in-code (a .tables .now) (a .rec .now) (a .codes .now) (l .i) _ (u .result) (m .result) (l .k) (c .before .before .before .before .before .loop-test .taken) refl (u .ensures .0) (m .ensures) _ _ (c .before .if1 .taken) (c .byte-in .ensures) (l .inv)
 
 width-requires : tie.Need-width-requires Inv-loop μ-loop
 width-requires c κs = search needs
@@ -64,7 +64,9 @@ loop-again : tie.Need-loop-again Inv-loop μ-loop
 loop-again c =
     let a = c .before .before .before .before .before .before .before .before .before .before .args in
     let l = c .before .before .before .before .before .before .loop in
-    sym (behind-code (a .tables .now) (a .rec .now) (a .codes .now) (l .i) (c .width .result) (c .before .before .before .u64-in .result) (c .before .before .length-of .result) (l .k) (c .before .before .before .before .before .loop-test .taken) (c .width .ensures) (c .before .before .before .u64-in .ensures .0) (c .before .before .length-of .ensures) (c .before .if1 .left))
+    let u = c .before .before .before .u64-in in
+    let m = c .before .before .length-of in
+    sym (behind-code (a .tables .now) (a .rec .now) (a .codes .now) (l .i) (c .width .result) (u .result) (m .result) (l .k) (c .before .before .before .before .before .loop-test .taken) (c .width .ensures) (u .ensures .0) (m .ensures) (c .before .if1 .left))
     ∙ l .inv
 
 returns-2 : tie.Need-returns-2 Inv-loop μ-loop
