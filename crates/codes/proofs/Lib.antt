@@ -1,7 +1,10 @@
 pub mod Coding
+pub mod Decoded
 pub mod EachToken
 pub mod Fields
 pub mod Five
+pub mod Made
 pub mod OneToken
 pub mod Prefixed
+pub mod SpelledLaws
 pub mod TableLaws

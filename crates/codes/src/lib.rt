@@ -1,3 +1,4 @@
 // Token codes: tokens are coded as numbers in a list and counted as they go.
 pub mod code;
+pub mod read;
 pub mod state;

@@ -45,11 +45,11 @@ module _ (l : Bool) (w i j : ℕ) where
       sym (ap (λ (t : List ℕ). getD t j 0) (hex-more l w (many n h)) ∙ List·getD-append (hexText l (w / 16)) (digit l (w % 16) ∷ []) 0 j b)
 
 -- the spellings from the i-th byte of a string on, and a text behind them
-module _ (s z : List ℕ) (i k m : ℕ) where
+module _ (s z : List ℕ) (i : ℕ) where
   pub escapes-over : min 80 (length s) ≤ i → escapes (drop i (take 80 s)) ++ z ≡ z
   escapes-over h = rw (escapes-end s 80 i h)
 
-  module _ (h : i < min 80 (length s)) (e : m ≡ length (escape (getD s i 0))) where
+  module _ (k m : ℕ) (h : i < min 80 (length s)) (e : m ≡ length (escape (getD s i 0))) where
     parted : escapes (drop i (take 80 s)) ++ z ≡ escape (getD s i 0) ++ (escapes (drop (i + 1) (take 80 s)) ++ z)
     parted = ap (λ (t : List ℕ). t ++ z) (escapes-from s 80 i h) ∙ append-assoc (escape (getD s i 0)) (escapes (drop (i + 1) (take 80 s))) z
 

@@ -1,4 +1,5 @@
 // The writer: each token's bytes are stored once, in the rest of the lent text, and its end and kind beside them.
+use codes::read::width;
 use lists::parts::part;
 use lists::reads::u8_at;
 use lists::reads::u64_in;
@@ -11,9 +12,8 @@ ghost use mathlib.Core.List.{List};
 ghost use Prim.Native.Nat.{ℕ, _≤_, _<_};
 ghost use lib.ListN.{length};
 ghost use Rattle.lists.specs.Put.{put};
-ghost use Rattle.lists.specs.Choice.{pick};
 ghost use Rattle.tokens.specs.Token.{Token};
-ghost use Rattle.codes.specs.Code.{whatIn, hasValue, textIn, event, decode};
+ghost use Rattle.codes.specs.Code.{whatIn, textIn, event, decode};
 ghost use Rattle.writer.specs.Written.{page, placeFor, written, onPage, Fits, Room, start, ofLines, Listed, Ready};
 
 // Bytes, tokens and lines written.
@@ -117,17 +117,6 @@ fn write_code(
         text: p.text,
         tokens: p.tokens,
         lines: i + 1,
-    }
-}
-
-// How many numbers a code takes.
-fn width(c: u64) -> usize
-    ensures { λ r. ⌜ r ≡ pick (hasValue c) 2 1 ⌝ }
-{
-    if (2 <= c / 16 % 16) & (c / 16 % 16 <= 4) {
-        2
-    } else {
-        1
     }
 }
 

@@ -63,7 +63,7 @@ returns-2 c =
     let s = c .before .before .before .before .before .args .s .now in
     let z = closing (ltb 80 (length s)) in
     let h : min 80 (length s) ≤ l .i = omega arith in
-    c .closing-byte .ensures ∙ ap (λ (t : List ℕ). getD t (l .k) 0) (sym (escapes-over s z (l .i) (l .k) 0 h)) ∙ l .inv .1
+    c .closing-byte .ensures ∙ ap (λ (t : List ℕ). getD t (l .k) 0) (sym (escapes-over s z (l .i) h)) ∙ l .inv .1
 
 pub inside-byte-spec : {M : Type 1} → statement M
 inside-byte-spec =

@@ -7,7 +7,8 @@ use native.Mathlib.Omega.{arith}
 use lib.ListN.{length, drop, getD}
 use Rattle.codes.specs.Code.{hasValue, decode}
 use Rattle.writer.specs.Written.{page, onPage, Room}
-use Rattle.writer.proofs.PageLaws.{turn, turn-room, room-at, done, width-few}
+use Rattle.codes.proofs.Decoded.{width-few}
+use Rattle.writer.proofs.PageLaws.{turn, turn-room, room-at, done}
 use Rattle.writer.proofs.write.write_codes.Statement.{statement}
 use Rattle.writer.proofs.write.write_codes.Tie as tie
 

@@ -3,7 +3,8 @@
 use borrow.Author.Needs.{needs}
 use mathlib.Core.Path.{ap, sym, _∙_}
 use Rattle.text.specs.Literal.{literalText}
-use Rattle.writer.proofs.TextLaws.{text-table, text-record, text-number, text-negative, text-word, text-literal, told, room}
+use Rattle.codes.proofs.Made.{text-table, text-record, text-number, text-negative, text-word, text-literal}
+use Rattle.writer.proofs.TextLaws.{told, room}
 use Rattle.writer.proofs.write.write_text.Statement.{statement}
 use Rattle.writer.proofs.write.write_text.Tie as tie
 

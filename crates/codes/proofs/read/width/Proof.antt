@@ -1,8 +1,8 @@
--- `write::width` meets its contract.
+-- `read::width` meets its contract.
 -- Its test is that of the definition.
 use mathlib.Core.Path.{refl}
-use Rattle.writer.proofs.write.width.Statement.{statement}
-use Rattle.writer.proofs.write.width.Tie as tie
+use Rattle.codes.proofs.read.width.Statement.{statement}
+use Rattle.codes.proofs.read.width.Tie as tie
 
 returns : tie.Need-returns
 returns c = rw (c .if1 .taken) refl
