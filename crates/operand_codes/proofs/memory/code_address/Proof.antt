@@ -17,7 +17,9 @@ same-length : tie.Need-same-length
 same-length c = search needs
 
 returns : tie.Need-returns
-returns c s = as-tokens (no-displacement (c .before .before .before .before .before .before .before .before .before .before .args .h) (c .before .before .before .before .before .before .before .before .before .before .args .body .now) _ (c .before .before .before .before .before .before .displacement .ensures) (c .before .before .before .before .if1 .taken)) (c .before .before .code-registers .ensures s)
+returns c s =
+    let a = c .before .before .before .before .before .before .before .before .before .before .args in
+    as-tokens (no-displacement (a .h) (a .body .now) _ (c .before .before .before .before .before .before .displacement .ensures) (c .before .before .before .before .if1 .taken)) (c .before .before .code-registers .ensures s)
 
 code-wrapped-registers-requires : tie.Need-code-wrapped-registers-requires
 code-wrapped-registers-requires c κs = search needs
@@ -35,7 +37,9 @@ same-length-2 : tie.Need-same-length-2
 same-length-2 c = search needs
 
 returns-2 : tie.Need-returns-2
-returns-2 c s = as-tokens (with-displacement (c .before .before .before .before .before .before .before .before .before .before .before .before .before .before .before .before .before .before .before .args .h) (c .before .before .before .before .before .before .before .before .before .before .before .before .before .before .before .before .before .before .before .args .body .now) _ (c .before .before .before .before .before .before .before .before .before .before .before .before .before .before .before .displacement .ensures) _ (c .before .before .before .before .before .before .before .before .before .before .before .before .before .if1 .left) (c .before .before .before .before .before .before .before .sign-word .ensures)) (coded-more _ s (c .before .before .before .before .before .before .before .before .before .before .before .code-wrapped-registers .ensures s) (two (c .before .before .before .before .before .before .code-word .ensures s) (c .before .before .code-num .ensures _ s)))
+returns-2 c s =
+    let a = c .before .before .before .before .before .before .before .before .before .before .before .before .before .before .before .before .before .before .before .args in
+    as-tokens (with-displacement (a .h) (a .body .now) _ (c .before .before .before .before .before .before .before .before .before .before .before .before .before .before .before .displacement .ensures) _ (c .before .before .before .before .before .before .before .before .before .before .before .before .before .if1 .left) (c .before .before .before .before .before .before .before .sign-word .ensures)) (coded-more _ s (c .before .before .before .before .before .before .before .before .before .before .before .code-wrapped-registers .ensures s) (two (c .before .before .before .before .before .before .code-word .ensures s) (c .before .before .code-num .ensures _ s)))
 
 pub code-address-spec : {M : Type 1} → statement M
 code-address-spec =

@@ -30,7 +30,9 @@ same-length : tie.Need-same-length
 same-length c = search needs
 
 returns : tie.Need-returns
-returns c = as-tokens (global-plain (c .before .before .before .before .before .before .before .before .before .before .before .before .before .before .args .h) (c .before .before .before .before .before .before .before .before .before .before .before .before .before .before .args .rec .now) (c .before .before .before .before .before .before .before .before .before .before .before .before .before .before .args .body .now) (c .before .before .before .before .before .before .before .before .before .before .before .before .before .before .args .deref) _ _ _ _ _ (c .before .before .before .before .before .before .before .before .before .memory-address .ensures) (c .before .before .before .before .before .before .before .before .entry-at .ensures) (c .before .before .before .before .before .before .before .memory-size .ensures) (c .before .before .before .before .before .before .prefix-word .ensures) (c .before .before .before .before .before .is-literal .ensures) (c .before .before .before .before .if1 .taken)) (c .before .before .code-found .ensures)
+returns c =
+    let a = c .before .before .before .before .before .before .before .before .before .before .before .before .before .before .args in
+    as-tokens (global-plain (a .h) (a .rec .now) (a .body .now) (a .deref) _ _ _ _ _ (c .before .before .before .before .before .before .before .before .before .memory-address .ensures) (c .before .before .before .before .before .before .before .before .entry-at .ensures) (c .before .before .before .before .before .before .before .memory-size .ensures) (c .before .before .before .before .before .before .prefix-word .ensures) (c .before .before .before .before .before .is-literal .ensures) (c .before .before .before .before .if1 .taken)) (c .before .before .code-found .ensures)
 
 code-word-requires : tie.Need-code-word-requires
 code-word-requires c κs = search needs

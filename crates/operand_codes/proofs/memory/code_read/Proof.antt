@@ -23,7 +23,9 @@ same-length : tie.Need-same-length
 same-length c = search needs
 
 returns : tie.Need-returns
-returns c s = as-tokens (size-word (c .before .before .before .before .before .before .before .before .before .before .before .before .before .args .h) (c .before .before .before .before .before .before .before .before .before .before .before .before .before .args .body .now) _ _ (c .before .before .before .before .before .before .before .before .memory-size .ensures) (c .before .before .before .before .before .before .before .type-word .ensures)) (coded-more _ s (c .before .before .before .before .before .before .code-word .ensures s) (c .before .before .code-wrapped-address .ensures s))
+returns c s =
+    let a = c .before .before .before .before .before .before .before .before .before .before .before .before .before .args in
+    as-tokens (size-word (a .h) (a .body .now) _ _ (c .before .before .before .before .before .before .before .before .memory-size .ensures) (c .before .before .before .before .before .before .before .type-word .ensures)) (coded-more _ s (c .before .before .before .before .before .before .code-word .ensures s) (c .before .before .code-wrapped-address .ensures s))
 
 pub code-read-spec : {M : Type 1} → statement M
 code-read-spec =

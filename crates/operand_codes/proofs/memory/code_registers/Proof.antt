@@ -20,7 +20,9 @@ same-length : tie.Need-same-length
 same-length c = search needs
 
 returns : tie.Need-returns
-returns c s = as-tokens (base-only (c .before .before .before .before .before .before .before .before .before .before .args .h) (c .before .before .before .before .before .before .before .before .before .before .args .body .now) _ _ (c .before .before .before .before .before .before .slot-base .ensures) (c .before .before .before .before .before .memory-index .ensures) (c .before .before .before .before .if1 .taken)) (c .before .before .code-register .ensures s)
+returns c s =
+    let a = c .before .before .before .before .before .before .before .before .before .before .args in
+    as-tokens (base-only (a .h) (a .body .now) _ _ (c .before .before .before .before .before .before .slot-base .ensures) (c .before .before .before .before .before .memory-index .ensures) (c .before .before .before .before .if1 .taken)) (c .before .before .code-register .ensures s)
 
 code-scaled-requires : tie.Need-code-scaled-requires
 code-scaled-requires c κs = search needs
@@ -29,7 +31,9 @@ same-length-2 : tie.Need-same-length-2
 same-length-2 c = search needs
 
 returns-2 : tie.Need-returns-2
-returns-2 c s = as-tokens (index-only (c .before .before .before .before .before .before .before .before .before .before .before .args .h) (c .before .before .before .before .before .before .before .before .before .before .before .args .body .now) _ _ (c .before .before .before .before .before .before .before .slot-base .ensures) (c .before .before .before .before .before .before .memory-index .ensures) (c .before .before .before .before .before .if1 .left) (c .before .before .before .before .if2 .taken)) (c .before .before .code-scaled .ensures s)
+returns-2 c s =
+    let a = c .before .before .before .before .before .before .before .before .before .before .before .args in
+    as-tokens (index-only (a .h) (a .body .now) _ _ (c .before .before .before .before .before .before .before .slot-base .ensures) (c .before .before .before .before .before .before .memory-index .ensures) (c .before .before .before .before .before .if1 .left) (c .before .before .before .before .if2 .taken)) (c .before .before .code-scaled .ensures s)
 
 code-register-requires-2 : tie.Need-code-register-requires-2
 code-register-requires-2 c κs = search needs
@@ -44,7 +48,9 @@ same-length-3 : tie.Need-same-length-3
 same-length-3 c = search needs
 
 returns-3 : tie.Need-returns-3
-returns-3 c s = as-tokens (base-index (c .before .before .before .before .before .before .before .before .before .before .before .before .before .before .before .before .before .before .before .args .h) (c .before .before .before .before .before .before .before .before .before .before .before .before .before .before .before .before .before .before .before .args .body .now) _ _ (c .before .before .before .before .before .before .before .before .before .before .before .before .before .before .before .slot-base .ensures) (c .before .before .before .before .before .before .before .before .before .before .before .before .before .before .memory-index .ensures) (c .before .before .before .before .before .before .before .before .before .before .before .before .before .if1 .left) (c .before .before .before .before .before .before .before .before .before .before .before .before .if2 .left)) (coded-more _ s (two (c .before .before .before .before .before .before .before .before .before .before .code-register2 .ensures s) (c .before .before .before .before .before .before .code-word .ensures s)) (c .before .before .code-wrapped-index .ensures s))
+returns-3 c s =
+    let a = c .before .before .before .before .before .before .before .before .before .before .before .before .before .before .before .before .before .before .before .args in
+    as-tokens (base-index (a .h) (a .body .now) _ _ (c .before .before .before .before .before .before .before .before .before .before .before .before .before .before .before .slot-base .ensures) (c .before .before .before .before .before .before .before .before .before .before .before .before .before .before .memory-index .ensures) (c .before .before .before .before .before .before .before .before .before .before .before .before .before .if1 .left) (c .before .before .before .before .before .before .before .before .before .before .before .before .if2 .left)) (coded-more _ s (two (c .before .before .before .before .before .before .before .before .before .before .code-register2 .ensures s) (c .before .before .before .before .before .before .code-word .ensures s)) (c .before .before .code-wrapped-index .ensures s))
 
 pub code-registers-spec : {M : Type 1} → statement M
 code-registers-spec =

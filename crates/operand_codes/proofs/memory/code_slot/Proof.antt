@@ -26,7 +26,9 @@ same-length : tie.Need-same-length
 same-length c = search needs
 
 returns : tie.Need-returns
-returns c s = as-tokens (plainly _ (slot-read (c .before .before .before .before .before .before .before .before .before .before .before .before .args .h) (c .before .before .before .before .before .before .before .before .before .before .before .before .args .body .now) _ _ _ _ (c .before .before .before .before .before .before .before .before .slot-number .ensures) (c .before .before .before .before .before .before .before .slot-base .ensures) (c .before .before .before .before .before .before .is-stack-pointer .ensures) (c .before .before .before .before .before .slot-word .ensures)) (c .before .before .before .before .if1 .taken)) (c .before .before .code-prefixed .ensures s)
+returns c s =
+    let a = c .before .before .before .before .before .before .before .before .before .before .before .before .args in
+    as-tokens (plainly _ (slot-read (a .h) (a .body .now) _ _ _ _ (c .before .before .before .before .before .before .before .before .slot-number .ensures) (c .before .before .before .before .before .before .before .slot-base .ensures) (c .before .before .before .before .before .before .is-stack-pointer .ensures) (c .before .before .before .before .before .slot-word .ensures)) (c .before .before .before .before .if1 .taken)) (c .before .before .code-prefixed .ensures s)
 
 code-word-requires : tie.Need-code-word-requires
 code-word-requires c κs = search needs
@@ -38,7 +40,9 @@ same-length-2 : tie.Need-same-length-2
 same-length-2 c = search needs
 
 returns-2 : tie.Need-returns-2
-returns-2 c s = as-tokens (and-then _ (slot-read (c .before .before .before .before .before .before .before .before .before .before .before .before .before .before .before .before .args .h) (c .before .before .before .before .before .before .before .before .before .before .before .before .before .before .before .before .args .body .now) _ _ _ _ (c .before .before .before .before .before .before .before .before .before .before .before .before .slot-number .ensures) (c .before .before .before .before .before .before .before .before .before .before .before .slot-base .ensures) (c .before .before .before .before .before .before .before .before .before .before .is-stack-pointer .ensures) (c .before .before .before .before .before .before .before .before .before .slot-word .ensures)) (c .before .before .before .before .before .before .before .before .if1 .left)) (two (c .before .before .before .before .before .before .code-word .ensures s) (c .before .before .code-prefixed2 .ensures s))
+returns-2 c s =
+    let a = c .before .before .before .before .before .before .before .before .before .before .before .before .before .before .before .before .args in
+    as-tokens (and-then _ (slot-read (a .h) (a .body .now) _ _ _ _ (c .before .before .before .before .before .before .before .before .before .before .before .before .slot-number .ensures) (c .before .before .before .before .before .before .before .before .before .before .before .slot-base .ensures) (c .before .before .before .before .before .before .before .before .before .before .is-stack-pointer .ensures) (c .before .before .before .before .before .before .before .before .before .slot-word .ensures)) (c .before .before .before .before .before .before .before .before .if1 .left)) (two (c .before .before .before .before .before .before .code-word .ensures s) (c .before .before .code-prefixed2 .ensures s))
 
 pub code-slot-spec : {M : Type 1} → statement M
 code-slot-spec =

@@ -23,7 +23,9 @@ same-length : tie.Need-same-length
 same-length c = search needs
 
 returns : tie.Need-returns
-returns c s = wrapped (scaled (c .before .before .before .before .before .before .before .before .before .before .before .before .before .before .before .before .args .body .now)) _ (scaled-loose (c .before .before .before .before .before .before .before .before .before .before .before .before .before .before .before .before .args .body .now) _ (c .before .before .before .before .before .before .before .before .before .before .before .before .memory-index-scale .ensures)) (c .before .before .before .before .before .before .before .before .before .before .code-if .ensures s) (c .before .before .before .before .before .before .code-scaled .ensures s) (c .before .before .code-if2 .ensures s)
+returns c s =
+    let a = c .before .before .before .before .before .before .before .before .before .before .before .before .before .before .before .before .args in
+    wrapped (scaled (a .body .now)) _ (scaled-loose (a .body .now) _ (c .before .before .before .before .before .before .before .before .before .before .before .before .memory-index-scale .ensures)) (c .before .before .before .before .before .before .before .before .before .before .code-if .ensures s) (c .before .before .before .before .before .before .code-scaled .ensures s) (c .before .before .code-if2 .ensures s)
 
 pub code-wrapped-index-spec : {M : Type 1} → statement M
 code-wrapped-index-spec =

@@ -17,7 +17,9 @@ same-length : tie.Need-same-length
 same-length c = search needs
 
 returns : tie.Need-returns
-returns c = as-tokens (is-segment (c .before .before .before .before .before .before .before .before .before .before .args .h) (c .before .before .before .before .before .before .before .before .before .before .args .rec .now) (c .before .before .before .before .before .before .before .before .before .before .args .body .now) (c .before .before .before .before .before .before .before .before .before .before .args .deref) (made _ _ _ (c .before .before .before .before .before .is-segment-read .ensures) (c .before .before .before .before .if1 .taken))) (c .before .before .code-segment .ensures (c .before .before .before .before .before .before .before .before .before .before .args .rec .now))
+returns c =
+    let a = c .before .before .before .before .before .before .before .before .before .before .args in
+    as-tokens (is-segment (a .h) (a .rec .now) (a .body .now) (a .deref) (made _ _ _ (c .before .before .before .before .before .is-segment-read .ensures) (c .before .before .before .before .if1 .taken))) (c .before .before .code-segment .ensures (a .rec .now))
 
 is-global-requires : tie.Need-is-global-requires
 is-global-requires c κs = search needs
@@ -29,7 +31,9 @@ same-length-2 : tie.Need-same-length-2
 same-length-2 c = search needs
 
 returns-2 : tie.Need-returns-2
-returns-2 c = as-tokens (is-global (c .before .before .before .before .before .before .before .before .before .before .before .before .args .h) (c .before .before .before .before .before .before .before .before .before .before .before .before .args .rec .now) (c .before .before .before .before .before .before .before .before .before .before .before .before .args .body .now) (c .before .before .before .before .before .before .before .before .before .before .before .before .args .deref) (made _ _ _ (c .before .before .before .before .before .before .before .is-segment-read .ensures) (c .before .before .before .before .before .before .if1 .left)) (made _ _ _ (c .before .before .before .before .before .is-global .ensures) (c .before .before .before .before .if2 .taken))) (c .before .before .code-global .ensures)
+returns-2 c =
+    let a = c .before .before .before .before .before .before .before .before .before .before .before .before .args in
+    as-tokens (is-global (a .h) (a .rec .now) (a .body .now) (a .deref) (made _ _ _ (c .before .before .before .before .before .before .before .is-segment-read .ensures) (c .before .before .before .before .before .before .if1 .left)) (made _ _ _ (c .before .before .before .before .before .is-global .ensures) (c .before .before .before .before .if2 .taken))) (c .before .before .code-global .ensures)
 
 is-slot-requires : tie.Need-is-slot-requires
 is-slot-requires c κs = search needs
@@ -41,7 +45,9 @@ same-length-3 : tie.Need-same-length-3
 same-length-3 c = search needs
 
 returns-3 : tie.Need-returns-3
-returns-3 c = as-tokens (is-slot (c .before .before .before .before .before .before .before .before .before .before .before .before .before .before .args .h) (c .before .before .before .before .before .before .before .before .before .before .before .before .before .before .args .rec .now) (c .before .before .before .before .before .before .before .before .before .before .before .before .before .before .args .body .now) (c .before .before .before .before .before .before .before .before .before .before .before .before .before .before .args .deref) (made _ _ _ (c .before .before .before .before .before .before .before .before .before .is-segment-read .ensures) (c .before .before .before .before .before .before .before .before .if1 .left)) (made _ _ _ (c .before .before .before .before .before .before .before .is-global .ensures) (c .before .before .before .before .before .before .if2 .left)) (made _ _ _ (c .before .before .before .before .before .is-slot .ensures) (c .before .before .before .before .if3 .taken))) (c .before .before .code-slot .ensures (c .before .before .before .before .before .before .before .before .before .before .before .before .before .before .args .rec .now))
+returns-3 c =
+    let a = c .before .before .before .before .before .before .before .before .before .before .before .before .before .before .args in
+    as-tokens (is-slot (a .h) (a .rec .now) (a .body .now) (a .deref) (made _ _ _ (c .before .before .before .before .before .before .before .before .before .is-segment-read .ensures) (c .before .before .before .before .before .before .before .before .if1 .left)) (made _ _ _ (c .before .before .before .before .before .before .before .is-global .ensures) (c .before .before .before .before .before .before .if2 .left)) (made _ _ _ (c .before .before .before .before .before .is-slot .ensures) (c .before .before .before .before .if3 .taken))) (c .before .before .code-slot .ensures (a .rec .now))
 
 code-read-requires : tie.Need-code-read-requires
 code-read-requires c κs = search needs
@@ -50,7 +56,9 @@ same-length-4 : tie.Need-same-length-4
 same-length-4 c = search needs
 
 returns-4 : tie.Need-returns-4
-returns-4 c = as-tokens (is-read (c .before .before .before .before .before .before .before .before .before .before .before .before .before .before .before .args .h) (c .before .before .before .before .before .before .before .before .before .before .before .before .before .before .before .args .body .now) (c .before .before .before .before .before .before .before .before .before .before .before .before .before .before .before .args .deref) (c .before .before .before .before .if4 .taken) ∙ is-address (c .before .before .before .before .before .before .before .before .before .before .before .before .before .before .before .args .h) (c .before .before .before .before .before .before .before .before .before .before .before .before .before .before .before .args .rec .now) (c .before .before .before .before .before .before .before .before .before .before .before .before .before .before .before .args .body .now) (c .before .before .before .before .before .before .before .before .before .before .before .before .before .before .before .args .deref) (made _ _ _ (c .before .before .before .before .before .before .before .before .before .before .is-segment-read .ensures) (c .before .before .before .before .before .before .before .before .before .if1 .left)) (made _ _ _ (c .before .before .before .before .before .before .before .before .is-global .ensures) (c .before .before .before .before .before .before .before .if2 .left)) (made _ _ _ (c .before .before .before .before .before .before .is-slot .ensures) (c .before .before .before .before .before .if3 .left))) (c .before .before .code-read .ensures (c .before .before .before .before .before .before .before .before .before .before .before .before .before .before .before .args .rec .now))
+returns-4 c =
+    let a = c .before .before .before .before .before .before .before .before .before .before .before .before .before .before .before .args in
+    as-tokens (is-read (a .h) (a .body .now) (a .deref) (c .before .before .before .before .if4 .taken) ∙ is-address (a .h) (a .rec .now) (a .body .now) (a .deref) (made _ _ _ (c .before .before .before .before .before .before .before .before .before .before .is-segment-read .ensures) (c .before .before .before .before .before .before .before .before .before .if1 .left)) (made _ _ _ (c .before .before .before .before .before .before .before .before .is-global .ensures) (c .before .before .before .before .before .before .before .if2 .left)) (made _ _ _ (c .before .before .before .before .before .before .is-slot .ensures) (c .before .before .before .before .before .if3 .left))) (c .before .before .code-read .ensures (a .rec .now))
 
 code-address-requires : tie.Need-code-address-requires
 code-address-requires c κs = search needs
@@ -59,7 +67,9 @@ same-length-5 : tie.Need-same-length-5
 same-length-5 c = search needs
 
 returns-5 : tie.Need-returns-5
-returns-5 c = as-tokens (is-plain (c .before .before .before .before .before .before .before .before .before .before .before .before .before .before .before .args .h) (c .before .before .before .before .before .before .before .before .before .before .before .before .before .before .before .args .body .now) (c .before .before .before .before .before .before .before .before .before .before .before .before .before .before .before .args .deref) (c .before .before .before .before .if4 .left) ∙ is-address (c .before .before .before .before .before .before .before .before .before .before .before .before .before .before .before .args .h) (c .before .before .before .before .before .before .before .before .before .before .before .before .before .before .before .args .rec .now) (c .before .before .before .before .before .before .before .before .before .before .before .before .before .before .before .args .body .now) (c .before .before .before .before .before .before .before .before .before .before .before .before .before .before .before .args .deref) (made _ _ _ (c .before .before .before .before .before .before .before .before .before .before .is-segment-read .ensures) (c .before .before .before .before .before .before .before .before .before .if1 .left)) (made _ _ _ (c .before .before .before .before .before .before .before .before .is-global .ensures) (c .before .before .before .before .before .before .before .if2 .left)) (made _ _ _ (c .before .before .before .before .before .before .is-slot .ensures) (c .before .before .before .before .before .if3 .left))) (c .before .before .code-address .ensures (c .before .before .before .before .before .before .before .before .before .before .before .before .before .before .before .args .rec .now))
+returns-5 c =
+    let a = c .before .before .before .before .before .before .before .before .before .before .before .before .before .before .before .args in
+    as-tokens (is-plain (a .h) (a .body .now) (a .deref) (c .before .before .before .before .if4 .left) ∙ is-address (a .h) (a .rec .now) (a .body .now) (a .deref) (made _ _ _ (c .before .before .before .before .before .before .before .before .before .before .is-segment-read .ensures) (c .before .before .before .before .before .before .before .before .before .if1 .left)) (made _ _ _ (c .before .before .before .before .before .before .before .before .is-global .ensures) (c .before .before .before .before .before .before .before .if2 .left)) (made _ _ _ (c .before .before .before .before .before .before .is-slot .ensures) (c .before .before .before .before .before .if3 .left))) (c .before .before .code-address .ensures (a .rec .now))
 
 pub mem-spec : {M : Type 1} → statement M
 mem-spec =

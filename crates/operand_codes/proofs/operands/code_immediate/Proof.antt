@@ -23,7 +23,9 @@ same-length : tie.Need-same-length
 same-length c = search needs
 
 returns : tie.Need-returns
-returns c s = as-token _ _ (in-window (c .before .before .before .before .before .before .before .before .before .before .args .kind) (c .before .before .before .before .before .before .before .before .before .before .args .v) _ _ (omega arith) (c .before .before .before .before .before .before .before .signed-read .ensures) (c .before .before .before .before .before .before .in-window .ensures) (c .before .before .before .before .before .if1 .taken) _ (c .before .before .before .magnitude .ensures .0)) (c .before .before .code-num .ensures _ s)
+returns c s =
+    let a = c .before .before .before .before .before .before .before .before .before .before .args in
+    as-token _ _ (in-window (a .kind) (a .v) _ _ (omega arith) (c .before .before .before .before .before .before .before .signed-read .ensures) (c .before .before .before .before .before .before .in-window .ensures) (c .before .before .before .before .before .if1 .taken) _ (c .before .before .before .magnitude .ensures .0)) (c .before .before .code-num .ensures _ s)
 
 code-num-requires-2 : tie.Need-code-num-requires-2
 code-num-requires-2 c κs = search needs
@@ -32,7 +34,9 @@ same-length-2 : tie.Need-same-length-2
 same-length-2 c = search needs
 
 returns-2 : tie.Need-returns-2
-returns-2 c s = as-token _ _ (not-in-window (c .before .before .before .before .before .before .before .before .before .args .kind) (c .before .before .before .before .before .before .before .before .before .args .v) _ _ (omega arith) (c .before .before .before .before .before .before .signed-read .ensures) (c .before .before .before .before .before .in-window .ensures) (c .before .before .before .before .if1 .left)) (c .before .before .code-num2 .ensures _ s)
+returns-2 c s =
+    let a = c .before .before .before .before .before .before .before .before .before .args in
+    as-token _ _ (not-in-window (a .kind) (a .v) _ _ (omega arith) (c .before .before .before .before .before .before .signed-read .ensures) (c .before .before .before .before .before .in-window .ensures) (c .before .before .before .before .if1 .left)) (c .before .before .code-num2 .ensures _ s)
 
 pub code-immediate-spec : {M : Type 1} → statement M
 code-immediate-spec =

@@ -16,7 +16,9 @@ same-length : tie.Need-same-length
 same-length c = search needs
 
 returns : tie.Need-returns
-returns c = as-tokens (in-span (c .before .before .before .before .before .before .before .before .before .args .h) (c .before .before .before .before .before .before .before .before .before .args .rec .now) (c .before .before .before .before .before .before .before .before .before .args .kind) (c .before .before .before .before .before .before .before .before .before .args .v) (made _ _ _ (c .before .before .before .before .before .is-address .ensures) (c .before .before .before .before .if1 .taken))) (c .before .before .name-or .ensures)
+returns c =
+    let a = c .before .before .before .before .before .before .before .before .before .args in
+    as-tokens (in-span (a .h) (a .rec .now) (a .kind) (a .v) (made _ _ _ (c .before .before .before .before .before .is-address .ensures) (c .before .before .before .before .if1 .taken))) (c .before .before .name-or .ensures)
 
 code-immediate-requires : tie.Need-code-immediate-requires
 code-immediate-requires c κs = search needs
@@ -25,7 +27,9 @@ same-length-2 : tie.Need-same-length-2
 same-length-2 c = search needs
 
 returns-2 : tie.Need-returns-2
-returns-2 c = as-tokens (not-in-span (c .before .before .before .before .before .before .before .before .before .args .h) (c .before .before .before .before .before .before .before .before .before .args .rec .now) (c .before .before .before .before .before .before .before .before .before .args .kind) (c .before .before .before .before .before .before .before .before .before .args .v) (made _ _ _ (c .before .before .before .before .before .is-address .ensures) (c .before .before .before .before .if1 .left))) (c .before .before .code-immediate .ensures (c .before .before .before .before .before .before .before .before .before .args .rec .now))
+returns-2 c =
+    let a = c .before .before .before .before .before .before .before .before .before .args in
+    as-tokens (not-in-span (a .h) (a .rec .now) (a .kind) (a .v) (made _ _ _ (c .before .before .before .before .before .is-address .ensures) (c .before .before .before .before .if1 .left))) (c .before .before .code-immediate .ensures (a .rec .now))
 
 pub immediate-spec : {M : Type 1} → statement M
 immediate-spec =

@@ -19,7 +19,9 @@ same-length : tie.Need-same-length
 same-length c = search needs
 
 returns : tie.Need-returns
-returns c = as-tokens (op-register-is (c .before .before .before .before .before .before .before .before .before .before .before .args .h) (c .before .before .before .before .before .before .before .before .before .before .before .args .rec .now) (c .before .before .before .before .before .before .before .before .before .before .before .args .body .now) (c .before .before .before .before .before .before .before .before .before .before .before .args .i) _ (c .before .before .before .before .before .before .op-kind .ensures) (c .before .before .before .before .before .if1 .taken) _ (c .before .before .before .op-register .ensures)) (c .before .before .code-register .ensures (c .before .before .before .before .before .before .before .before .before .before .before .args .rec .now))
+returns c =
+    let a = c .before .before .before .before .before .before .before .before .before .before .before .args in
+    as-tokens (op-register-is (a .h) (a .rec .now) (a .body .now) (a .i) _ (c .before .before .before .before .before .before .op-kind .ensures) (c .before .before .before .before .before .if1 .taken) _ (c .before .before .before .op-register .ensures)) (c .before .before .code-register .ensures (a .rec .now))
 
 mem-requires : tie.Need-mem-requires
 mem-requires c κs = search needs
@@ -28,7 +30,9 @@ same-length-2 : tie.Need-same-length-2
 same-length-2 c = search needs
 
 returns-2 : tie.Need-returns-2
-returns-2 c = as-tokens (op-memory-is (c .before .before .before .before .before .before .before .before .before .before .before .args .h) (c .before .before .before .before .before .before .before .before .before .before .before .args .rec .now) (c .before .before .before .before .before .before .before .before .before .before .before .args .body .now) (c .before .before .before .before .before .before .before .before .before .before .before .args .i) _ (c .before .before .before .before .before .before .op-kind .ensures) (c .before .before .before .before .before .if1 .left) (c .before .before .before .before .if2 .taken)) (c .before .before .mem .ensures)
+returns-2 c =
+    let a = c .before .before .before .before .before .before .before .before .before .before .before .args in
+    as-tokens (op-memory-is (a .h) (a .rec .now) (a .body .now) (a .i) _ (c .before .before .before .before .before .before .op-kind .ensures) (c .before .before .before .before .before .if1 .left) (c .before .before .before .before .if2 .taken)) (c .before .before .mem .ensures)
 
 op-number-requires : tie.Need-op-number-requires
 op-number-requires c κs = search needs
@@ -40,7 +44,9 @@ same-length-3 : tie.Need-same-length-3
 same-length-3 c = search needs
 
 returns-3 : tie.Need-returns-3
-returns-3 c = as-tokens (op-branch-is (c .before .before .before .before .before .before .before .before .before .before .before .before .before .args .h) (c .before .before .before .before .before .before .before .before .before .before .before .before .before .args .rec .now) (c .before .before .before .before .before .before .before .before .before .before .before .before .before .args .body .now) (c .before .before .before .before .before .before .before .before .before .before .before .before .before .args .i) _ (c .before .before .before .before .before .before .before .before .op-kind .ensures) (c .before .before .before .before .before .before .before .if1 .left) (c .before .before .before .before .before .before .if2 .left) _ (c .before .before .before .op-number .ensures) (c .before .before .before .before .before .if3 .taken)) (c .before .before .name-or .ensures)
+returns-3 c =
+    let a = c .before .before .before .before .before .before .before .before .before .before .before .before .before .args in
+    as-tokens (op-branch-is (a .h) (a .rec .now) (a .body .now) (a .i) _ (c .before .before .before .before .before .before .before .before .op-kind .ensures) (c .before .before .before .before .before .before .before .if1 .left) (c .before .before .before .before .before .before .if2 .left) _ (c .before .before .before .op-number .ensures) (c .before .before .before .before .before .if3 .taken)) (c .before .before .name-or .ensures)
 
 op-number-requires-2 : tie.Need-op-number-requires-2
 op-number-requires-2 c κs = search needs
@@ -52,7 +58,9 @@ same-length-4 : tie.Need-same-length-4
 same-length-4 c = search needs
 
 returns-4 : tie.Need-returns-4
-returns-4 c = as-tokens (op-immediate-is (c .before .before .before .before .before .before .before .before .before .before .before .before .before .before .args .h) (c .before .before .before .before .before .before .before .before .before .before .before .before .before .before .args .rec .now) (c .before .before .before .before .before .before .before .before .before .before .before .before .before .before .args .body .now) (c .before .before .before .before .before .before .before .before .before .before .before .before .before .before .args .i) _ (c .before .before .before .before .before .before .before .before .before .op-kind .ensures) (c .before .before .before .before .before .before .before .before .if1 .left) (c .before .before .before .before .before .before .before .if2 .left) _ (c .before .before .before .op-number2 .ensures) (c .before .before .before .before .before .before .if3 .left) (c .before .before .before .before .before .if4 .taken)) (c .before .before .immediate .ensures)
+returns-4 c =
+    let a = c .before .before .before .before .before .before .before .before .before .before .before .before .before .before .args in
+    as-tokens (op-immediate-is (a .h) (a .rec .now) (a .body .now) (a .i) _ (c .before .before .before .before .before .before .before .before .before .op-kind .ensures) (c .before .before .before .before .before .before .before .before .if1 .left) (c .before .before .before .before .before .before .before .if2 .left) _ (c .before .before .before .op-number2 .ensures) (c .before .before .before .before .before .before .if3 .left) (c .before .before .before .before .before .if4 .taken)) (c .before .before .immediate .ensures)
 
 code-word-requires : tie.Need-code-word-requires
 code-word-requires c κs = search needs
@@ -61,7 +69,9 @@ same-length-5 : tie.Need-same-length-5
 same-length-5 c = search needs
 
 returns-5 : tie.Need-returns-5
-returns-5 c = as-tokens (op-other-is (c .before .before .before .before .before .before .before .before .before .before .before .before .before .args .h) (c .before .before .before .before .before .before .before .before .before .before .before .before .before .args .rec .now) (c .before .before .before .before .before .before .before .before .before .before .before .before .before .args .body .now) (c .before .before .before .before .before .before .before .before .before .before .before .before .before .args .i) _ (c .before .before .before .before .before .before .before .before .op-kind .ensures) (c .before .before .before .before .before .before .before .if1 .left) (c .before .before .before .before .before .before .if2 .left) (c .before .before .before .before .before .if3 .left) (c .before .before .before .before .if4 .left)) (c .before .before .code-word .ensures (c .before .before .before .before .before .before .before .before .before .before .before .before .before .args .rec .now))
+returns-5 c =
+    let a = c .before .before .before .before .before .before .before .before .before .before .before .before .before .args in
+    as-tokens (op-other-is (a .h) (a .rec .now) (a .body .now) (a .i) _ (c .before .before .before .before .before .before .before .before .op-kind .ensures) (c .before .before .before .before .before .before .before .if1 .left) (c .before .before .before .before .before .before .if2 .left) (c .before .before .before .before .before .if3 .left) (c .before .before .before .before .if4 .left)) (c .before .before .code-word .ensures (a .rec .now))
 
 pub op-spec : {M : Type 1} → statement M
 op-spec =
