@@ -123,11 +123,11 @@ literal-found h s Nothing va = refl
 
 module _ (h : Header) (s b : List ℕ) (deref l : Bool) (found : Found) (va m w : ℕ)
     (p : va ≡ memoryAddress b) (q : found ≡ entryAt h s va) (r : m ≡ memorySize b) (t : w ≡ prefixWord m) (u : l ≡ literalAt h s found) where
-  name-found : nameOrAt h s found va w ≡ nameOr h s (memoryAddress b) (prefixWord (memorySize b))
+  pub name-found : nameOrAt h s found va w ≡ nameOr h s (memoryAddress b) (prefixWord (memorySize b))
   unfolding nameOr
   name-found = rw (← r, ← t, ← p, ← q)
 
-  asked-found : (deref || isLiteral h s (memoryAddress b)) ≡ (deref || l)
+  pub asked-found : (deref || isLiteral h s (memoryAddress b)) ≡ (deref || l)
   unfolding nameOr
   asked-found = rw (← p, ← q, u, literal-found h s found va)
 

@@ -21,9 +21,18 @@ sum-small : (f : ℕ → ℕ) → ((i : ℕ) → f i < 256) → (k : ℕ) → su
 sum-small f h zero = omega arith
 sum-small f h (suc k) = omega (arith, sum-small f h k, h k)
 
-pub start-small : (h : Header) (s : List ℕ) (k : ℕ) → AllBytes s → textStart (pairsOf h s) k ≤ 255 * k
+start-small : (h : Header) (s : List ℕ) (k : ℕ) → AllBytes s → textStart (pairsOf h s) k ≤ 255 * k
 unfolding textStart
 start-small h s k bs = sum-small (entryLength (pairsOf h s)) (λ i. bytes-drop (pairsAt h) s bs (2 * i + 1)) k
+
+-- the pairs begin at q, the texts at `texts`, and entry k's text at `start` among them
+module _ (h : Header) (s pairs : List ℕ) (k q texts start : ℕ)
+    (p : pairs ≡ drop q s) (u : q ≡ pairsAt h) (v : texts ≡ textsAt h) (w : start ≡ textStart pairs k) where
+  pub place-is : texts + start ≡ textsAt h + textStart (pairsOf h s) k
+  place-is = rw (v, w, p, u)
+
+  pub place-small : AllBytes s → texts < 16_000_000 → k < 65536 → texts + start < 33_000_000
+  place-small bs a b = omega (arith, place-is, start-small h s k bs)
 
 module _ (h : Header) (s pairs : List ℕ) (k kind at n : ℕ)
     (p : pairs ≡ pairsOf h s) (q : kind ≡ entryKind pairs k) (b : n ≡ entryLength pairs k) (a : at ≡ textsAt h + textStart (pairsOf h s) k) where

@@ -1,2 +1,3 @@
 pub mod Entry
+pub mod Pieces
 pub mod Tokens

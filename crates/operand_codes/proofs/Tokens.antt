@@ -1,4 +1,4 @@
--- Tokens coded one behind the other make an operand's tokens.
+-- Tokens coded one behind the other, and parentheses around.
 -- Coders compose by `coded-more`; each law takes what the callees ensure of the lists between.
 use mathlib.Core.Path.{_≡_}
 use mathlib.Core.Bool.{Bool, true, false}
@@ -10,7 +10,6 @@ use Rattle.tokens.specs.Words.{words, wordToken}
 use Rattle.codes.specs.Coded.{Coded}
 use Rattle.codes.proofs.Coding.{coded-more}
 use Rattle.operand.specs.Expr.{Expr, wrapIf, wrap}
-use Rattle.operand.specs.Memory.{addressOf}
 
 module _ {t s : List ℕ} where
   -- tokens that are others
@@ -33,11 +32,3 @@ module _ {t s : List ℕ} where
       go : (l : Bool) → Coded t s c c₁ (pick l (wordToken 2 ∷ []) []) → Coded t s c₂ c₃ (pick l (wordToken 3 ∷ []) []) → Coded t s c c₃ (wrapIf l (e .tokens))
       go true p r = coded-more t s p (coded-more t s q r)
       go false p r = as-tokens (append-nil (e .tokens)) (coded-more t s p (coded-more t s q r))
-
-  -- `&` in front of a token, or not
-  pub plainly : {c c₁ : List ℕ} (x y : Token) → x ≡ y → Coded t s c c₁ (x ∷ []) → Coded t s c c₁ (addressOf true y)
-  plainly x y e a = rw (← e) a
-
-  pub and-then : {c c₁ c₂ : List ℕ} (x y : Token) → x ≡ y → Coded t s c c₁ (wordToken 5 ∷ []) → Coded t s c₁ c₂ (x ∷ []) → Coded t s c c₂ (addressOf false y)
-  unfolding wordToken words
-  and-then x y e a b = rw (← e) (coded-more t s a b)

@@ -1,2 +1,4 @@
 // Operands as token codes, beside `operand`, which stores their texts.
+pub mod memory;
 pub mod names;
+pub mod operands;

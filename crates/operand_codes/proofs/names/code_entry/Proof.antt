@@ -32,7 +32,9 @@ same-length : tie.Need-same-length
 same-length c = search needs
 
 returns : tie.Need-returns
-returns c = as-token _ _ (name-at (c .before .before .before .before .before .before .before .before .before .before .before .before .before .args .h) (c .before .before .before .before .before .before .before .before .before .before .before .before .before .args .rec .now) _ (c .before .before .before .before .before .before .before .before .before .before .before .before .before .args .k) _ _ _ (part-is _ _ _ _ (c .before .before .before .before .before .before .before .before .from .ensures .0) (c .before .before .before .before .before .before .before .before .before .pairs-at .ensures .0)) (c .before .before .before .before .before .before .before .entry-kind .ensures) (c .before .before .before .before .before .before .entry-length .ensures .0) (c .before .before .before .before .before .text-place .ensures) (c .before .before .before .before .if1 .taken)) (c .before .before .code-part .ensures)
+returns c =
+    let a = c .before .before .before .before .before .before .before .before .before .before .before .before .before .args in
+    as-token _ _ (name-at (a .h) (a .rec .now) _ (a .k) _ _ _ (part-is _ _ _ _ (c .before .before .before .before .before .before .before .before .from .ensures .0) (c .before .before .before .before .before .before .before .before .before .pairs-at .ensures .0)) (c .before .before .before .before .before .before .before .entry-kind .ensures) (c .before .before .before .before .before .before .entry-length .ensures .0) (c .before .before .before .before .before .text-place .ensures) (c .before .before .before .before .if1 .taken)) (c .before .before .code-part .ensures)
 
 code-literal-requires : tie.Need-code-literal-requires
 code-literal-requires c κs = search needs
@@ -41,7 +43,9 @@ same-length-2 : tie.Need-same-length-2
 same-length-2 c = search needs
 
 returns-2 : tie.Need-returns-2
-returns-2 c = as-token _ _ (literal-at (c .before .before .before .before .before .before .before .before .before .before .before .before .before .args .h) (c .before .before .before .before .before .before .before .before .before .before .before .before .before .args .rec .now) _ (c .before .before .before .before .before .before .before .before .before .before .before .before .before .args .k) _ _ _ (part-is _ _ _ _ (c .before .before .before .before .before .before .before .before .from .ensures .0) (c .before .before .before .before .before .before .before .before .before .pairs-at .ensures .0)) (c .before .before .before .before .before .before .before .entry-kind .ensures) (c .before .before .before .before .before .before .entry-length .ensures .0) (c .before .before .before .before .before .text-place .ensures) (c .before .before .before .before .if1 .left)) (c .before .before .code-literal .ensures)
+returns-2 c =
+    let a = c .before .before .before .before .before .before .before .before .before .before .before .before .before .args in
+    as-token _ _ (literal-at (a .h) (a .rec .now) _ (a .k) _ _ _ (part-is _ _ _ _ (c .before .before .before .before .before .before .before .before .from .ensures .0) (c .before .before .before .before .before .before .before .before .before .pairs-at .ensures .0)) (c .before .before .before .before .before .before .before .entry-kind .ensures) (c .before .before .before .before .before .before .entry-length .ensures .0) (c .before .before .before .before .before .text-place .ensures) (c .before .before .before .before .if1 .left)) (c .before .before .code-literal .ensures)
 
 pub code-entry-spec : {M : Type 1} → statement M
 code-entry-spec =

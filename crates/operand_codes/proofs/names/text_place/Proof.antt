@@ -1,13 +1,7 @@
 -- `names::text_place` meets its contract.
 -- The texts before it are at most 255 bytes each.
-use mathlib.Core.Path.{ap, _∙_}
-use mathlib.Core.List.{List}
-use Prim.Native.Nat.{ℕ}
 use native.Mathlib.Omega.{arith}
-use Rattle.record.specs.Atlas.{textStart}
-use Rattle.operand.specs.Bounds.{AllBytes}
-use Rattle.operand.proofs.Entries.{part-is}
-use Rattle.operand_codes.proofs.Entry.{start-small}
+use Rattle.operand_codes.proofs.Entry.{place-is, place-small}
 use borrow.Author.Needs.{needs}
 use Rattle.operand_codes.proofs.names.text_place.Statement.{statement}
 use Rattle.operand_codes.proofs.names.text_place.Tie as tie
@@ -26,20 +20,18 @@ text-start-requires c κs = search needs
 
 add-result : tie.Need-add-result
 add-result c =
-    let bs : AllBytes (c .before .before .before .before .before .args .rec .now) = λ i. omega (arith, c .before .before .before .before .shared-slice-known .given i) in
-    let e = c .text-start .ensures ∙ ap (λ (l : List ℕ). textStart l (c .before .before .before .before .before .args .k)) (part-is _ _ _ _ (c .before .from .ensures .0) (c .before .before .pairs-at .ensures .0)) in
-    omega (arith, e, start-small (c .before .before .before .before .before .args .h) (c .before .before .before .before .before .args .rec .now) (c .before .before .before .before .before .args .k) bs, c .before .before .before .texts-at .ensures .0, c .before .before .before .texts-at .ensures .1)
+    let a = c .before .before .before .before .before .args in
+    omega (arith, place-small (a .h) (a .rec .now) _ (a .k) _ _ _ (c .before .from .ensures .0) (c .before .before .pairs-at .ensures .0) (c .before .before .before .texts-at .ensures .0) (c .text-start .ensures) (λ i. omega (arith, c .before .before .before .before .shared-slice-known .given i)) (c .before .before .before .texts-at .ensures .1) (omega arith))
 
 cast-result : tie.Need-cast-result
 cast-result c =
-    let bs : AllBytes (c .before .before .before .before .before .args .rec .now) = λ i. omega (arith, c .before .before .before .before .shared-slice-known .given i) in
-    let e = c .text-start .ensures ∙ ap (λ (l : List ℕ). textStart l (c .before .before .before .before .before .args .k)) (part-is _ _ _ _ (c .before .from .ensures .0) (c .before .before .pairs-at .ensures .0)) in
-    omega (arith, e, start-small (c .before .before .before .before .before .args .h) (c .before .before .before .before .before .args .rec .now) (c .before .before .before .before .before .args .k) bs, c .before .before .before .texts-at .ensures .0, c .before .before .before .texts-at .ensures .1)
+    let a = c .before .before .before .before .before .args in
+    omega (arith, place-small (a .h) (a .rec .now) _ (a .k) _ _ _ (c .before .from .ensures .0) (c .before .before .pairs-at .ensures .0) (c .before .before .before .texts-at .ensures .0) (c .text-start .ensures) (λ i. omega (arith, c .before .before .before .before .shared-slice-known .given i)) (c .before .before .before .texts-at .ensures .1) (omega arith))
 
 returns : tie.Need-returns
 returns c =
-    let e = c .text-start .ensures ∙ ap (λ (l : List ℕ). textStart l (c .before .before .before .before .before .args .k)) (part-is _ _ _ _ (c .before .from .ensures .0) (c .before .before .pairs-at .ensures .0)) in
-    omega (arith, e, c .before .before .before .texts-at .ensures .0)
+    let a = c .before .before .before .before .before .args in
+    place-is (a .h) (a .rec .now) _ (a .k) _ _ _ (c .before .from .ensures .0) (c .before .before .pairs-at .ensures .0) (c .before .before .before .texts-at .ensures .0) (c .text-start .ensures)
 
 pub text-place-spec : {M : Type 1} → statement M
 text-place-spec =

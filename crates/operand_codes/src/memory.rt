@@ -1,0 +1,211 @@
+// Memory operands as token codes, read or as an address.
+use crate::names::code_found;
+use codes::code::code_num;
+use codes::code::code_prefixed;
+use codes::code::code_register;
+use codes::code::code_word;
+use operand::memory::address_loose;
+use operand::memory::is_global;
+use operand::memory::is_segment_read;
+use operand::memory::prefix_word;
+use operand::memory::registers_loose;
+use operand::memory::segment_word;
+use operand::memory::sign_word;
+use operand::memory::slot_word;
+use operand::memory::type_word;
+use operand::names::entry_at;
+use operand::names::is_literal;
+use operand::slots::displacement;
+use operand::slots::is_slot;
+use operand::slots::slot_base;
+use operand::slots::slot_number;
+use record::body::memory_address;
+use record::body::memory_index;
+use record::body::memory_index_scale;
+use record::body::memory_segment;
+use record::body::memory_size;
+use record::header::Header;
+use tokens::words::ADDRESS_OF;
+use tokens::words::CLOSE;
+use tokens::words::OPEN;
+use tokens::words::PLUS;
+use tokens::words::TIMES;
+use x86::registers::is_stack_pointer;
+ghost use mathlib.Core.Bool.{true, false};
+ghost use mathlib.Core.List.{List, [], _∷_};
+ghost use mathlib.Core.Path.{_≡_};
+ghost use Prim.Native.Nat.{ℕ, _≤_};
+ghost use lib.ListN.{length};
+ghost use Rattle.lists.specs.Choice.{pick};
+ghost use Rattle.tokens.specs.Token.{punct};
+ghost use Rattle.tokens.specs.Words.{wordToken};
+ghost use Rattle.codes.specs.Coded.{Coded};
+ghost use Rattle.codes.specs.Tables.{tableBytes};
+ghost use Rattle.operand.specs.Expr.{wrap};
+ghost use Rattle.operand.specs.Memory.{number, segmentRead, global, slotToken, addressOf, scaled, registers, addressExpr, address, memTokens};
+ghost use Rattle.operand_codes.specs.Lent.{Lent};
+
+// A number in parentheses.
+fn code_argument(codes: &mut [u64], tables: &[u8], v: u64)
+    requires { ⌜ (5 ≤ length (now codes)) × (now tables ≡ tableBytes) ⌝ }
+    ensures { λ _. ⌜ ((s : List ℕ) → Coded (now (tables .entry)) s (now (codes .entry)) (now (codes .exit)) (punct "(" ∷ number false v ∷ punct ")" ∷ [])) ⌝ }
+{
+    code_word(codes, tables, OPEN);
+    code_num(codes, false, v);
+    code_word(codes, tables, CLOSE)
+}
+
+// A read by fs or gs.
+fn code_segment(codes: &mut [u64], tables: &[u8], body: &[u8])
+    requires { ⌜ (5 ≤ length (now codes)) × (now tables ≡ tableBytes) ⌝ }
+    ensures { λ _. ⌜ ((s : List ℕ) → Coded (now (tables .entry)) s (now (codes .entry)) (now (codes .exit)) (segmentRead (now (body .entry)))) ⌝ }
+{
+    let w = segment_word(memory_segment(body), memory_size(body));
+    code_word(codes, tables, w);
+    code_argument(codes, tables, memory_address(body))
+}
+
+// A global: the atlas is searched once, for the `&` and for the token.
+fn code_global(codes: &mut [u64], tables: &[u8], rec: &[u8], h: Header, body: &[u8], deref: bool)
+    requires { ⌜ Lent (now codes) (now tables) h (now rec) ⌝ }
+    ensures { λ _. ⌜ Coded (now (tables .entry)) (now (rec .entry)) (now (codes .entry)) (now (codes .exit)) (global h (now (rec .entry)) deref (now (body .entry))) ⌝ }
+{
+    let va = memory_address(body);
+    let found = entry_at(rec, h, va);
+    let w = prefix_word(memory_size(body));
+    if deref | is_literal(rec, h, found) {
+        return code_found(codes, tables, rec, h, found, va, w);
+    }
+    code_word(codes, tables, ADDRESS_OF);
+    code_found(codes, tables, rec, h, found, va, w)
+}
+
+// A stack slot.
+fn code_slot(codes: &mut [u64], tables: &[u8], h: Header, body: &[u8], deref: bool)
+    requires { ⌜ (5 ≤ length (now codes)) × (now tables ≡ tableBytes) ⌝ }
+    ensures { λ _. ⌜ ((s : List ℕ) → Coded (now (tables .entry)) s (now (codes .entry)) (now (codes .exit)) (addressOf deref (slotToken h (now (body .entry))))) ⌝ }
+{
+    let n = slot_number(h, body);
+    let w = slot_word(is_stack_pointer(slot_base(h, body)), n.negative);
+    if deref {
+        return code_prefixed(codes, tables, w, n.size);
+    }
+    code_word(codes, tables, ADDRESS_OF);
+    code_prefixed(codes, tables, w, n.size)
+}
+
+// A parenthesis, or nothing.
+fn code_if(codes: &mut [u64], tables: &[u8], w: u8, wanted: bool)
+    requires { ⌜ (5 ≤ length (now codes)) × (now tables ≡ tableBytes) ⌝ }
+    ensures { λ _. ⌜ ((s : List ℕ) → Coded (now (tables .entry)) s (now (codes .entry)) (now (codes .exit)) (pick wanted (wordToken w ∷ []) [])) ⌝ }
+{
+    if wanted {
+        return code_word(codes, tables, w);
+    }
+}
+
+// The index with its scale.
+fn code_scaled(codes: &mut [u64], tables: &[u8], body: &[u8])
+    requires { ⌜ (5 ≤ length (now codes)) × (now tables ≡ tableBytes) ⌝ }
+    ensures { λ _. ⌜ ((s : List ℕ) → Coded (now (tables .entry)) s (now (codes .entry)) (now (codes .exit)) (scaled (now (body .entry)) .tokens)) ⌝ }
+{
+    code_register(codes, tables, memory_index(body));
+    let scale = memory_index_scale(body);
+    if 1 < scale {
+        code_word(codes, tables, TIMES);
+        return code_num(codes, false, scale as u64);
+    }
+}
+
+// The same, in parentheses where it is scaled.
+fn code_wrapped_index(codes: &mut [u64], tables: &[u8], body: &[u8])
+    requires { ⌜ (5 ≤ length (now codes)) × (now tables ≡ tableBytes) ⌝ }
+    ensures { λ _. ⌜ ((s : List ℕ) → Coded (now (tables .entry)) s (now (codes .entry)) (now (codes .exit)) (wrap (scaled (now (body .entry))))) ⌝ }
+{
+    let loose = 1 < memory_index_scale(body);
+    code_if(codes, tables, OPEN, loose);
+    code_scaled(codes, tables, body);
+    code_if(codes, tables, CLOSE, loose)
+}
+
+// Base and index.
+fn code_registers(codes: &mut [u64], tables: &[u8], h: Header, body: &[u8])
+    requires { ⌜ (5 ≤ length (now codes)) × (now tables ≡ tableBytes) ⌝ }
+    ensures { λ _. ⌜ ((s : List ℕ) → Coded (now (tables .entry)) s (now (codes .entry)) (now (codes .exit)) (registers h (now (body .entry)) .tokens)) ⌝ }
+{
+    let base = slot_base(h, body);
+    if memory_index(body) == 0 {
+        return code_register(codes, tables, base);
+    }
+    if base == 0 {
+        return code_scaled(codes, tables, body);
+    }
+    code_register(codes, tables, base);
+    code_word(codes, tables, PLUS);
+    code_wrapped_index(codes, tables, body)
+}
+
+// The same, in parentheses where there are two.
+fn code_wrapped_registers(codes: &mut [u64], tables: &[u8], h: Header, body: &[u8])
+    requires { ⌜ (5 ≤ length (now codes)) × (now tables ≡ tableBytes) ⌝ }
+    ensures { λ _. ⌜ ((s : List ℕ) → Coded (now (tables .entry)) s (now (codes .entry)) (now (codes .exit)) (wrap (registers h (now (body .entry))))) ⌝ }
+{
+    let loose = registers_loose(h, body);
+    code_if(codes, tables, OPEN, loose);
+    code_registers(codes, tables, h, body);
+    code_if(codes, tables, CLOSE, loose)
+}
+
+// An address.
+fn code_address(codes: &mut [u64], tables: &[u8], h: Header, body: &[u8])
+    requires { ⌜ (5 ≤ length (now codes)) × (now tables ≡ tableBytes) ⌝ }
+    ensures { λ _. ⌜ ((s : List ℕ) → Coded (now (tables .entry)) s (now (codes .entry)) (now (codes .exit)) (addressExpr h (now (body .entry)) .tokens)) ⌝ }
+{
+    let d = displacement(h, body);
+    if d.size == 0 {
+        return code_registers(codes, tables, h, body);
+    }
+    code_wrapped_registers(codes, tables, h, body);
+    code_word(codes, tables, sign_word(d.negative));
+    code_num(codes, false, d.size)
+}
+
+// The same, in parentheses where there is more than a register.
+fn code_wrapped_address(codes: &mut [u64], tables: &[u8], h: Header, body: &[u8])
+    requires { ⌜ (5 ≤ length (now codes)) × (now tables ≡ tableBytes) ⌝ }
+    ensures { λ _. ⌜ ((s : List ℕ) → Coded (now (tables .entry)) s (now (codes .entry)) (now (codes .exit)) (wrap (addressExpr h (now (body .entry))))) ⌝ }
+{
+    let loose = address_loose(h, body);
+    code_if(codes, tables, OPEN, loose);
+    code_address(codes, tables, h, body);
+    code_if(codes, tables, CLOSE, loose)
+}
+
+// A read at an address.
+fn code_read(codes: &mut [u64], tables: &[u8], h: Header, body: &[u8])
+    requires { ⌜ (5 ≤ length (now codes)) × (now tables ≡ tableBytes) ⌝ }
+    ensures { λ _. ⌜ ((s : List ℕ) → Coded (now (tables .entry)) s (now (codes .entry)) (now (codes .exit)) (address h true (now (body .entry)) .tokens)) ⌝ }
+{
+    code_word(codes, tables, type_word(memory_size(body)));
+    code_wrapped_address(codes, tables, h, body)
+}
+
+// A memory operand, read or as an address.
+pub fn mem(codes: &mut [u64], tables: &[u8], rec: &[u8], h: Header, body: &[u8], deref: bool)
+    requires { ⌜ Lent (now codes) (now tables) h (now rec) ⌝ }
+    ensures { λ _. ⌜ Coded (now (tables .entry)) (now (rec .entry)) (now (codes .entry)) (now (codes .exit)) (memTokens h (now (rec .entry)) deref (now (body .entry))) ⌝ }
+{
+    if is_segment_read(body) {
+        return code_segment(codes, tables, body);
+    }
+    if is_global(body) {
+        return code_global(codes, tables, rec, h, body, deref);
+    }
+    if is_slot(h, body) {
+        return code_slot(codes, tables, h, body, deref);
+    }
+    if deref {
+        return code_read(codes, tables, h, body);
+    }
+    code_address(codes, tables, h, body)
+}

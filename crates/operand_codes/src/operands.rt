@@ -1,0 +1,67 @@
+// Operands as token codes: an immediate, and `op`.
+use crate::memory::mem;
+use crate::names::name_or;
+use codes::code::code_num;
+use codes::code::code_register;
+use codes::code::code_word;
+use operand::numbers::in_window;
+use operand::numbers::magnitude;
+use operand::numbers::signed_read;
+use operand::operand::is_address;
+use record::body::op_kind;
+use record::body::op_number;
+use record::body::op_register;
+use record::header::Header;
+use tokens::words::LOC;
+use tokens::words::OFF;
+use tokens::words::UNKNOWN;
+ghost use mathlib.Core.List.{List, [], _∷_};
+ghost use Prim.Native.Nat.{ℕ, _≤_};
+ghost use lib.ListN.{length};
+ghost use Rattle.codes.specs.Coded.{Coded};
+ghost use Rattle.operand.specs.Operand.{immediateNumber, immediate, opTokens};
+ghost use Rattle.operand_codes.specs.Lent.{Lent};
+
+// An immediate as a number: negative in the window.
+fn code_immediate(codes: &mut [u64], tables: &[u8], kind: u8, v: u64)
+    requires { ⌜ 5 ≤ length (now codes) ⌝ }
+    ensures { λ _. ⌜ ((s : List ℕ) → Coded (now (tables .entry)) s (now (codes .entry)) (now (codes .exit)) (immediateNumber kind v ∷ [])) ⌝ }
+{
+    let s = signed_read(kind, v);
+    if in_window(s) {
+        return code_num(codes, true, magnitude(s));
+    }
+    code_num(codes, false, v)
+}
+
+// An immediate: an address in a span by its name, before any sign is asked.
+pub fn immediate(codes: &mut [u64], tables: &[u8], rec: &[u8], h: Header, kind: u8, v: u64)
+    requires { ⌜ Lent (now codes) (now tables) h (now rec) ⌝ }
+    ensures { λ _. ⌜ Coded (now (tables .entry)) (now (rec .entry)) (now (codes .entry)) (now (codes .exit)) (immediate h (now (rec .entry)) kind v ∷ []) ⌝ }
+{
+    if is_address(rec, h, v) {
+        return name_or(codes, tables, rec, h, v, OFF);
+    }
+    code_immediate(codes, tables, kind, v)
+}
+
+// Operand i of a body, read from its slot.
+pub fn op(codes: &mut [u64], tables: &[u8], rec: &[u8], h: Header, body: &[u8], i: u8)
+    requires { ⌜ Lent (now codes) (now tables) h (now rec) ⌝ }
+    ensures { λ _. ⌜ Coded (now (tables .entry)) (now (rec .entry)) (now (codes .entry)) (now (codes .exit)) (opTokens h (now (rec .entry)) (now (body .entry)) i) ⌝ }
+{
+    let kind = op_kind(body, i);
+    if kind == 0 {
+        return code_register(codes, tables, op_register(body, i));
+    }
+    if kind == 1 {
+        return mem(codes, tables, rec, h, body, true);
+    }
+    if kind == 2 {
+        return name_or(codes, tables, rec, h, op_number(body, i), LOC);
+    }
+    if kind <= 10 {
+        return immediate(codes, tables, rec, h, kind, op_number(body, i));
+    }
+    code_word(codes, tables, UNKNOWN)
+}
