@@ -73,8 +73,15 @@ mnemonic-sizes : (m : ℕ) → m < 46 → Sized isaBytes (1280 + 16 * m)
 unfolding isaBytes registerTable mnemonicTable registerNames registerName mnemonicNames mnemonicName
 mnemonic-sizes m h = eqb→eq _ _ (below-at (λ m. sized isaBytes (1280 + 16 * m)) 46 tt m h)
 
+isa-behind : drop 3264 tableBytes ≡ isaBytes
+unfolding tableBytes
+isa-behind = drop-behind wordBytes isaBytes 0 3264 (omega (arith, size))
+
 -- the table as it is lent
 module _ (t : List ℕ) (e : t ≡ tableBytes) where
+  pub isa-is : (r : List ℕ) → r ≡ drop 3264 t → r ≡ isaBytes
+  isa-is r h = h ∙ rw e isa-behind
+
   module _ (w : ℕ) (h : w < 102) where
     pub word-is : token (u8At t (32 * w)) (textAt t (32 * w + 1)) ≡ wordToken w
     unfolding row

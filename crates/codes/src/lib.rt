@@ -2,3 +2,4 @@
 pub mod code;
 pub mod read;
 pub mod state;
+pub mod tables;

@@ -98,7 +98,7 @@ pub fn register_arguments(
 }
 
 // Whether instruction i has mnemonic m and is not skipped.
-fn is_unskipped(isa: &[u8], bodies: &[u8], frame: u16, m: u8, i: u16) -> bool
+pub fn is_unskipped(isa: &[u8], bodies: &[u8], frame: u16, m: u8, i: u16) -> bool
     requires { ⌜ now isa ≡ isaBytes ⌝ }
     ensures { λ r. ⌜ r ≡ isUnskipped frame (now (bodies .entry)) m i ⌝ }
 {

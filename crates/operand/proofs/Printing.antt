@@ -18,18 +18,18 @@ use Rattle.tokens.specs.Sheet.{Sheet, sheet, pushes, firstPen}
 use Rattle.tokens.specs.Listing.{textOf}
 use Rattle.tokens.specs.ListingLaws.{line-wrote, join-text}
 use Rattle.tokens.specs.declared.pen.Pen.{Pen}
-use Rattle.operand.specs.Alike.{sameBytes, TextStored}
+use Rattle.x86.specs.Words.{sameWord}
+use Rattle.operand.specs.Alike.{TextStored}
 
 -- the first n bytes of two lists from byte i on
 abbrev pub SameFrom : List ℕ → List ℕ → ℕ → ℕ → Type 0
-SameFrom a b n i = sameBytes (take n a) (take n b) ≡ sameBytes (take (n - i) (drop i a)) (take (n - i) (drop i b))
+SameFrom a b n i = sameWord (take n a) (take n b) ≡ sameWord (take (n - i) (drop i a)) (take (n - i) (drop i b))
 
 pub from-start : (a b : List ℕ) (n : ℕ) → SameFrom a b n 0
 from-start a b n = let k : n - 0 ≡ n = omega arith in rw k
 
 module _ (a b : List ℕ) (n i : ℕ) (p : n ≤ length a) (q : n ≤ length b) (s : SameFrom a b n i) where
-  next-byte : i < n → sameBytes (take n a) (take n b) ≡ (eqb (getD a i 0) (getD b i 0) && sameBytes (take (n - (i + 1)) (drop (i + 1) a)) (take (n - (i + 1)) (drop (i + 1) b)))
-  unfolding sameBytes
+  next-byte : i < n → sameWord (take n a) (take n b) ≡ (eqb (getD a i 0) (getD b i 0) && sameWord (take (n - (i + 1)) (drop (i + 1) a)) (take (n - (i + 1)) (drop (i + 1) b)))
   next-byte h =
       let k : n - i ≡ suc (n - (i + 1)) = omega arith in
       s ∙ rw (k, drop-cons a i 0 (omega arith), drop-cons b i 0 (omega arith), ← add-one i)
@@ -37,22 +37,21 @@ module _ (a b : List ℕ) (n i : ℕ) (p : n ≤ length a) (q : n ≤ length b) 
   pub byte-same : i < n → getD a i 0 ≡ getD b i 0 → SameFrom a b n (i + 1)
   byte-same h e = next-byte h ∙ rw (eq-eqb (getD a i 0) (getD b i 0) e)
 
-  pub byte-other : i < n → (getD a i 0 ≡ getD b i 0 → ⊥) → false ≡ sameBytes (take n a) (take n b)
+  pub byte-other : i < n → (getD a i 0 ≡ getD b i 0 → ⊥) → false ≡ sameWord (take n a) (take n b)
   byte-other h e = sym (next-byte h ∙ rw (ne-eqb (getD a i 0) (getD b i 0) e))
 
-  pub all-same : n ≤ i → true ≡ sameBytes (take n a) (take n b)
-  unfolding sameBytes
+  pub all-same : n ≤ i → true ≡ sameWord (take n a) (take n b)
   all-same h = let k : n - i ≡ 0 = omega arith in sym (s ∙ rw k)
 
-other-lengths : (s t : List ℕ) → (length s ≡ length t → ⊥) → sameBytes s t ≡ false
-unfolding sameBytes
+-- texts of other lengths
+pub other-lengths : (s t : List ℕ) → (length s ≡ length t → ⊥) → sameWord s t ≡ false
 other-lengths [] [] h = absurd (h refl)
 other-lengths [] (y ∷ t) h = refl
 other-lengths (x ∷ s) [] h = refl
 other-lengths (x ∷ s) (y ∷ t) h = rw (other-lengths s t (λ e. h (ap suc e)), and-false)
 
 -- two texts printed, each into a list of its own
-pub lengths-differ : {s t d e d′ e′ : List ℕ} {n m : ℕ} → TextStored s d d′ n → TextStored t e e′ m → (n ≡ m → ⊥) → false ≡ sameBytes s t
+pub lengths-differ : {s t d e d′ e′ : List ℕ} {n m : ℕ} → TextStored s d d′ n → TextStored t e e′ m → (n ≡ m → ⊥) → false ≡ sameWord s t
 lengths-differ {s} {t} p q h = sym (other-lengths s t (λ x. h (p .count ∙ x ∙ sym (q .count))))
 
 stored-front : (t e e′ : List ℕ) (n : ℕ) → 640 ≤ length e → TextStored t e e′ n → take n e′ ≡ t
@@ -61,7 +60,7 @@ stored-front t e e′ n h p =
     rw (p .text, put-fits 0 t e (omega arith)) (take-at t _ n (sym (p .count)))
 
 pub fronts-same : {s t d e d′ e′ : List ℕ} {n m : ℕ} {r : Bool} → TextStored s d d′ n → TextStored t e e′ m → 640 ≤ length d → 640 ≤ length e → n ≡ m
-    → r ≡ sameBytes (take n d′) (take n e′) → r ≡ sameBytes s t
+    → r ≡ sameWord (take n d′) (take n e′) → r ≡ sameWord s t
 fronts-same {s} {t} {d} {e} {d′} {e′} {n} {m} p q hd he h x = x ∙ rw (stored-front s d d′ n hd p, h, stored-front t e e′ m he q)
 
 -- tokens pushed by the first pen

@@ -5,15 +5,16 @@ use tokens::pen::first_pen;
 ghost use mathlib.Core.Path.{_≡_};
 ghost use Prim.Native.Nat.{_≤_};
 ghost use lib.ListN.{length, take};
+ghost use Rattle.x86.specs.Words.{sameWord};
 ghost use Rattle.tokens.specs.Listing.{textOf};
 ghost use Rattle.operand.specs.Operand.{opTokens};
-ghost use Rattle.operand.specs.Alike.{sameBytes, alike, TextStored};
+ghost use Rattle.operand.specs.Alike.{alike, TextStored};
 ghost use Rattle.operand.specs.Tables.{Tables};
 
 // Whether two lists begin with the same n bytes.
 fn same_bytes(a: &[u8], b: &[u8], n: usize) -> bool
     requires { ⌜ (n ≤ length (now a)) × (n ≤ length (now b)) ⌝ }
-    ensures { λ r. ⌜ r ≡ sameBytes (take n (now (a .entry))) (take n (now (b .entry))) ⌝ }
+    ensures { λ r. ⌜ r ≡ sameWord (take n (now (a .entry))) (take n (now (b .entry))) ⌝ }
 {
     let mut i: usize = 0;
     while i < n {

@@ -1,0 +1,3 @@
+pub mod Commas
+pub mod Conditions
+pub mod Turns

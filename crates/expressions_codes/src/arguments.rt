@@ -1,0 +1,134 @@
+// The arguments of a call as token codes.
+use codes::code::code_register;
+use codes::code::code_word;
+use codes::tables::isa_of;
+use expressions::arguments::is_unskipped;
+use lists::reads::from;
+use operand_codes::operands::op;
+use record::body::body_at;
+use record::header::Header;
+use record::layout::bodies_at;
+use tokens::words::COMMA;
+use x86::conventions::argument_count;
+use x86::conventions::argument_register;
+ghost use mathlib.Core.Path.{_≡_};
+ghost use mathlib.Core.Bool.{false};
+ghost use mathlib.Core.List.{List, [], _∷_};
+ghost use Prim.Native.Nat.{ℕ, _-_, _≤_};
+ghost use lib.Dec.{ltb};
+ghost use lib.ListN.{length};
+ghost use Rattle.lists.specs.Choice.{pick};
+ghost use Rattle.x86.specs.Conventions.{argumentRegister};
+ghost use Rattle.record.specs.Layout.{bodiesOf};
+ghost use Rattle.codes.specs.Coded.{Coded};
+ghost use Rattle.codes.specs.Tables.{tableBytes};
+ghost use Rattle.operand.specs.Memory.{registerToken};
+ghost use Rattle.operand.specs.Operand.{opTokens};
+ghost use Rattle.operand_codes.specs.Lent.{Lent};
+ghost use Rattle.expressions.specs.Arguments.{commaIf, registerArguments, pushesBack, pushed, argumentTokens};
+
+// Argument register k, behind a comma unless it is the first.
+fn code_nth(codes: &mut [u64], tables: &[u8], convention: u16, k: u8)
+    requires { ⌜ (5 ≤ length (now codes)) × (now tables ≡ tableBytes) ⌝ }
+    ensures { λ _. ⌜ ((s : List ℕ) → Coded (now (tables .entry)) s (now (codes .entry)) (now (codes .exit)) (commaIf (ltb 0 k) (registerToken (argumentRegister convention k) ∷ []))) ⌝ }
+{
+    let r = argument_register(convention, k);
+    if 0 < k {
+        code_word(codes, tables, COMMA);
+        return code_register(codes, tables, r);
+    }
+    code_register(codes, tables, r)
+}
+
+// With bits 64: the convention's registers up to the last one written.
+pub fn register_arguments(codes: &mut [u64], tables: &[u8], convention: u16, mask: u16)
+    requires { ⌜ (5 ≤ length (now codes)) × (now tables ≡ tableBytes) ⌝ }
+    ensures { λ _. ⌜ ((s : List ℕ) → Coded (now (tables .entry)) s (now (codes .entry)) (now (codes .exit)) (registerArguments convention mask)) ⌝ }
+{
+    let n = argument_count(convention, mask);
+    let mut k: u8 = 0;
+    while k < n {
+        code_nth(codes, tables, convention, k);
+        k += 1;
+    }
+}
+
+// Operand i of a body, behind a comma if one is wanted.
+pub fn code_listed(
+    codes: &mut [u64],
+    tables: &[u8],
+    rec: &[u8],
+    h: Header,
+    body: &[u8],
+    i: u8,
+    comma: bool,
+)
+    requires { ⌜ Lent (now codes) (now tables) h (now rec) ⌝ }
+    ensures { λ _. ⌜ Coded (now (tables .entry)) (now (rec .entry)) (now (codes .entry)) (now (codes .exit)) (commaIf comma (opTokens h (now (rec .entry)) (now (body .entry)) i)) ⌝ }
+{
+    if comma {
+        code_word(codes, tables, COMMA);
+        return op(codes, tables, rec, h, body, i);
+    }
+    op(codes, tables, rec, h, body, i)
+}
+
+// What a push pushes, if it is not skipped.
+fn code_pushed(
+    codes: &mut [u64],
+    tables: &[u8],
+    rec: &[u8],
+    h: Header,
+    body: &[u8],
+    comma: bool,
+    kept: bool,
+)
+    requires { ⌜ Lent (now codes) (now tables) h (now rec) ⌝ }
+    ensures { λ _. ⌜ Coded (now (tables .entry)) (now (rec .entry)) (now (codes .entry)) (now (codes .exit)) (pick kept (commaIf comma (opTokens h (now (rec .entry)) (now (body .entry)) 0)) []) ⌝ }
+{
+    if kept {
+        return code_listed(codes, tables, rec, h, body, 0, comma);
+    }
+}
+
+// With bits 32: the pushes since the last call that is not silent, the last one first.
+pub fn pushed_arguments(codes: &mut [u64], tables: &[u8], rec: &[u8], h: Header, first: u16, i: u16)
+    requires { ⌜ Lent (now codes) (now tables) h (now rec) ⌝ }
+    ensures { λ _. ⌜ Coded (now (tables .entry)) (now (rec .entry)) (now (codes .entry)) (now (codes .exit)) (pushed h (now (rec .entry)) false (pushesBack (h .frame) (bodiesOf h (now (rec .entry))) first (i - first))) ⌝ }
+{
+    let isa = isa_of(tables);
+    let bodies = from(rec, bodies_at(h));
+    let frame = h.frame;
+    let mut comma = false;
+    let mut k = i;
+    while first < k {
+        let j = k - 1;
+        if is_unskipped(isa, bodies, frame, 23, j) {
+            return;
+        }
+        let kept = is_unskipped(isa, bodies, frame, 21, j);
+        let body = body_at(bodies, j);
+        code_pushed(codes, tables, rec, h, body, comma, kept);
+        comma = comma | kept;
+        k = j;
+    }
+}
+
+// The arguments at instruction i of a range whose first instruction is `first`.
+pub fn arguments(
+    codes: &mut [u64],
+    tables: &[u8],
+    rec: &[u8],
+    h: Header,
+    first: u16,
+    i: u16,
+    mask: u16,
+)
+    requires { ⌜ Lent (now codes) (now tables) h (now rec) ⌝ }
+    ensures { λ _. ⌜ Coded (now (tables .entry)) (now (rec .entry)) (now (codes .entry)) (now (codes .exit)) (argumentTokens h (now (rec .entry)) first i mask) ⌝ }
+{
+    if h.bits == 32 {
+        return pushed_arguments(codes, tables, rec, h, first, i);
+    }
+    register_arguments(codes, tables, h.convention, mask)
+}

@@ -1,0 +1,106 @@
+// Conditions as token codes: the nearest flag writer before the tested instruction, in the same block.
+use codes::code::code_num;
+use codes::code::code_word;
+use codes::tables::isa_of;
+use operand_codes::operands::op;
+use record::header::Header;
+use tokens::words::AND;
+use tokens::words::CLOSE;
+use tokens::words::EQUAL;
+use tokens::words::OPEN;
+use tokens::words::UNSIGNED;
+use x86::conditions::prints_unsigned;
+use x86::conditions::relation_after_cmp;
+use x86::conditions::relation_after_other;
+ghost use mathlib.Core.Path.{_≡_};
+ghost use mathlib.Core.Bool.{true, false};
+ghost use mathlib.Core.List.{List, [], _∷_, _++_};
+ghost use Prim.Native.Nat.{ℕ, _≤_, _<_};
+ghost use lib.ListN.{length};
+ghost use Rattle.tokens.specs.Token.{punct};
+ghost use Rattle.x86.specs.Conditions.{printsUnsigned};
+ghost use Rattle.codes.specs.Coded.{Coded};
+ghost use Rattle.codes.specs.Tables.{tableBytes};
+ghost use Rattle.operand.specs.Expr.{wrapIf};
+ghost use Rattle.operand.specs.Memory.{number};
+ghost use Rattle.operand.specs.Operand.{opTokens};
+ghost use Rattle.operand_codes.specs.Lent.{Lent};
+ghost use Rattle.expressions.specs.Condition.{flagsWord, operator, unsignedIf, afterCmp, afterOther};
+
+// `__flags_` and the condition's name; for a number that names no condition an empty text.
+fn code_flags(codes: &mut [u64], tables: &[u8], cc: u8)
+    requires { ⌜ (5 ≤ length (now codes)) × (now tables ≡ tableBytes) ⌝ }
+    ensures { λ _. ⌜ ((s : List ℕ) → Coded (now (tables .entry)) s (now (codes .entry)) (now (codes .exit)) (flagsWord cc ∷ [])) ⌝ }
+{
+    if (0 < cc) & (cc < 17) {
+        return code_word(codes, tables, 75 + cc);
+    }
+    code_word(codes, tables, 255)
+}
+
+// An operator, and 0 behind it.
+fn code_against(codes: &mut [u64], tables: &[u8], relation: u8)
+    requires { ⌜ (5 ≤ length (now codes)) × (now tables ≡ tableBytes) ⌝ }
+    requires { ⌜ relation < 6 ⌝ }
+    ensures { λ _. ⌜ ((s : List ℕ) → Coded (now (tables .entry)) s (now (codes .entry)) (now (codes .exit)) (operator relation ∷ number false 0 ∷ [])) ⌝ }
+{
+    code_word(codes, tables, EQUAL + relation);
+    code_num(codes, false, 0)
+}
+
+// The first operand, as unsigned where the rule reads unsigned.
+fn code_unsigned(codes: &mut [u64], tables: &[u8], rec: &[u8], h: Header, body: &[u8], cc: u8)
+    requires { ⌜ Lent (now codes) (now tables) h (now rec) ⌝ }
+    ensures { λ _. ⌜ Coded (now (tables .entry)) (now (rec .entry)) (now (codes .entry)) (now (codes .exit)) (unsignedIf (printsUnsigned cc) (opTokens h (now (rec .entry)) (now (body .entry)) 0)) ⌝ }
+{
+    if prints_unsigned(isa_of(tables), cc) {
+        code_word(codes, tables, UNSIGNED);
+        return op(codes, tables, rec, h, body, 0);
+    }
+    op(codes, tables, rec, h, body, 0)
+}
+
+fn after_cmp(codes: &mut [u64], tables: &[u8], rec: &[u8], h: Header, body: &[u8], cc: u8)
+    requires { ⌜ Lent (now codes) (now tables) h (now rec) ⌝ }
+    ensures { λ _. ⌜ Coded (now (tables .entry)) (now (rec .entry)) (now (codes .entry)) (now (codes .exit)) (afterCmp h (now (rec .entry)) (now (body .entry)) cc) ⌝ }
+{
+    let r = relation_after_cmp(isa_of(tables), cc);
+    if r < 6 {
+        code_unsigned(codes, tables, rec, h, body, cc);
+        code_word(codes, tables, EQUAL + r);
+        return op(codes, tables, rec, h, body, 1);
+    }
+    code_flags(codes, tables, cc)
+}
+
+fn after_other(codes: &mut [u64], tables: &[u8], rec: &[u8], h: Header, body: &[u8], cc: u8)
+    requires { ⌜ Lent (now codes) (now tables) h (now rec) ⌝ }
+    ensures { λ _. ⌜ Coded (now (tables .entry)) (now (rec .entry)) (now (codes .entry)) (now (codes .exit)) (afterOther h (now (rec .entry)) (now (body .entry)) cc) ⌝ }
+{
+    let r = relation_after_other(isa_of(tables), cc);
+    if r < 6 {
+        op(codes, tables, rec, h, body, 0);
+        return code_against(codes, tables, r);
+    }
+    code_flags(codes, tables, cc)
+}
+
+// Both operands of TEST, with `&` between.
+fn code_and(codes: &mut [u64], tables: &[u8], rec: &[u8], h: Header, body: &[u8])
+    requires { ⌜ Lent (now codes) (now tables) h (now rec) ⌝ }
+    ensures { λ _. ⌜ Coded (now (tables .entry)) (now (rec .entry)) (now (codes .entry)) (now (codes .exit)) (opTokens h (now (rec .entry)) (now (body .entry)) 0 ++ (punct " & " ∷ opTokens h (now (rec .entry)) (now (body .entry)) 1)) ⌝ }
+{
+    op(codes, tables, rec, h, body, 0);
+    code_word(codes, tables, AND);
+    op(codes, tables, rec, h, body, 1)
+}
+
+// The same in parentheses.
+fn code_both(codes: &mut [u64], tables: &[u8], rec: &[u8], h: Header, body: &[u8])
+    requires { ⌜ Lent (now codes) (now tables) h (now rec) ⌝ }
+    ensures { λ _. ⌜ Coded (now (tables .entry)) (now (rec .entry)) (now (codes .entry)) (now (codes .exit)) (wrapIf true (opTokens h (now (rec .entry)) (now (body .entry)) 0 ++ (punct " & " ∷ opTokens h (now (rec .entry)) (now (body .entry)) 1))) ⌝ }
+{
+    code_word(codes, tables, OPEN);
+    code_and(codes, tables, rec, h, body);
+    code_word(codes, tables, CLOSE)
+}
