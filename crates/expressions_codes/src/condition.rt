@@ -2,8 +2,15 @@
 use codes::code::code_num;
 use codes::code::code_word;
 use codes::tables::isa_of;
+use expressions::condition::flag_writer;
+use lists::reads::from;
+use operand_codes::alike::alike;
 use operand_codes::operands::op;
+use record::body::body_at;
+use record::body::mnemonic;
 use record::header::Header;
+use record::layout::bodies_at;
+use record::search::Found;
 use tokens::words::AND;
 use tokens::words::CLOSE;
 use tokens::words::EQUAL;
@@ -12,6 +19,7 @@ use tokens::words::UNSIGNED;
 use x86::conditions::prints_unsigned;
 use x86::conditions::relation_after_cmp;
 use x86::conditions::relation_after_other;
+use x86::conditions::relation_after_test;
 ghost use mathlib.Core.Path.{_≡_};
 ghost use mathlib.Core.Bool.{true, false};
 ghost use mathlib.Core.List.{List, [], _∷_, _++_};
@@ -25,7 +33,7 @@ ghost use Rattle.operand.specs.Expr.{wrapIf};
 ghost use Rattle.operand.specs.Memory.{number};
 ghost use Rattle.operand.specs.Operand.{opTokens};
 ghost use Rattle.operand_codes.specs.Lent.{Lent};
-ghost use Rattle.expressions.specs.Condition.{flagsWord, operator, unsignedIf, afterCmp, afterOther};
+ghost use Rattle.expressions.specs.Condition.{flagsWord, operator, unsignedIf, afterCmp, tested, afterTest, afterOther, afterWriter, conditionTokens};
 
 // `__flags_` and the condition's name; for a number that names no condition an empty text.
 fn code_flags(codes: &mut [u64], tables: &[u8], cc: u8)
@@ -103,4 +111,62 @@ fn code_both(codes: &mut [u64], tables: &[u8], rec: &[u8], h: Header, body: &[u8
     code_word(codes, tables, OPEN);
     code_and(codes, tables, rec, h, body);
     code_word(codes, tables, CLOSE)
+}
+
+// What TEST compares with 0.
+fn code_tested(codes: &mut [u64], tables: &[u8], rec: &[u8], h: Header, body: &[u8])
+    requires { ⌜ Lent (now codes) (now tables) h (now rec) ⌝ }
+    ensures { λ _. ⌜ Coded (now (tables .entry)) (now (rec .entry)) (now (codes .entry)) (now (codes .exit)) (tested h (now (rec .entry)) (now (body .entry))) ⌝ }
+{
+    if alike(tables, rec, h, body) {
+        return op(codes, tables, rec, h, body, 0);
+    }
+    code_both(codes, tables, rec, h, body)
+}
+
+fn after_test(codes: &mut [u64], tables: &[u8], rec: &[u8], h: Header, body: &[u8], cc: u8)
+    requires { ⌜ Lent (now codes) (now tables) h (now rec) ⌝ }
+    ensures { λ _. ⌜ Coded (now (tables .entry)) (now (rec .entry)) (now (codes .entry)) (now (codes .exit)) (afterTest h (now (rec .entry)) (now (body .entry)) cc) ⌝ }
+{
+    let r = relation_after_test(isa_of(tables), cc);
+    if r < 6 {
+        code_tested(codes, tables, rec, h, body);
+        return code_against(codes, tables, r);
+    }
+    code_flags(codes, tables, cc)
+}
+
+// A condition after the flag writer with this body.
+fn after_writer(codes: &mut [u64], tables: &[u8], rec: &[u8], h: Header, body: &[u8], cc: u8)
+    requires { ⌜ Lent (now codes) (now tables) h (now rec) ⌝ }
+    ensures { λ _. ⌜ Coded (now (tables .entry)) (now (rec .entry)) (now (codes .entry)) (now (codes .exit)) (afterWriter h (now (rec .entry)) (now (body .entry)) cc) ⌝ }
+{
+    let m = mnemonic(body);
+    if m == 38 {
+        return after_cmp(codes, tables, rec, h, body, cc);
+    }
+    if m == 39 {
+        return after_test(codes, tables, rec, h, body, cc);
+    }
+    after_other(codes, tables, rec, h, body, cc)
+}
+
+// Condition cc tested by instruction i of the block whose first instruction is `first`.
+pub fn condition(
+    codes: &mut [u64],
+    tables: &[u8],
+    rec: &[u8],
+    h: Header,
+    first: u16,
+    i: u16,
+    cc: u8,
+)
+    requires { ⌜ Lent (now codes) (now tables) h (now rec) ⌝ }
+    ensures { λ _. ⌜ Coded (now (tables .entry)) (now (rec .entry)) (now (codes .entry)) (now (codes .exit)) (conditionTokens h (now (rec .entry)) first i cc) ⌝ }
+{
+    let bodies = from(rec, bodies_at(h));
+    match flag_writer(isa_of(tables), bodies, first, i) {
+        Found::At(p) => after_writer(codes, tables, rec, h, body_at(bodies, p), cc),
+        Found::Nothing => code_flags(codes, tables, cc),
+    }
 }

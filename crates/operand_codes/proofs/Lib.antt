@@ -1,3 +1,4 @@
 pub mod Entry
 pub mod Pieces
+pub mod SameText
 pub mod Tokens

@@ -1,0 +1,29 @@
+-- `alike::code_alone` meets its contract.
+-- An operand has few tokens: the record and the body are bytes, and the shift is an i32.
+use native.Mathlib.Omega.{arith}
+use Rattle.operand.specs.Bounds.{AllBytes, op-within}
+use Rattle.operand.proofs.Integers.{small32}
+use Rattle.operand_codes.proofs.SameText.{coded-alone}
+use borrow.Author.Needs.{needs}
+use Rattle.operand_codes.proofs.alike.code_alone.Statement.{statement}
+use Rattle.operand_codes.proofs.alike.code_alone.Tie as tie
+
+start-requires : tie.Need-start-requires
+start-requires c κs = search needs
+
+op-requires : tie.Need-op-requires
+op-requires c κs = search needs
+
+same-length : tie.Need-same-length
+same-length c = search needs
+
+returns : tie.Need-returns
+returns c =
+    let rec : AllBytes (c .before .before .before .before .before .before .before .before .before .before .before .before .args .rec .now) = λ k. omega (arith, (c .before .before .before .before .before .before .before .before .before .shared-slice-known2 .given) k) in
+    let body : AllBytes (c .before .before .before .before .before .before .before .before .before .before .before .before .args .body .now) = λ k. omega (arith, (c .before .before .before .before .before .before .before .before .shared-slice-known3 .given) k) in
+    let shift = small32 ((c .before .before .before .before .before .before .before .before .before .before .before .before .args .h) .shift) (record { sfits = (c .before .before .before .before .before .before .before .before .before .before .before .before .good .1 .1 .1 .0 .1 .1 .1 .1 .1 .1 .1 .1 .1 .1 .0 .1) }) in
+    let w = op-within (c .before .before .before .before .before .before .before .before .before .before .before .before .args .h) _ _ rec body shift (c .before .before .before .before .before .before .before .before .before .before .before .before .args .i) in
+    coded-alone _ _ _ _ _ (c .before .before .before .before .before .before .start .ensures) (c .before .before .op .ensures) (omega (arith, (c .before .before .before .before .before .before .start .kept .0), (c .before .before .before .before .before .before .before .before .before .before .before .before .pre .1))) (omega (arith, (c .before .before .op .kept .0))) (w .few) (w .short)
+
+pub code-alone-spec : {M : Type 1} → statement M
+code-alone-spec = tie.close (tie.spec start-requires op-requires same-length returns)
