@@ -1,3 +1,4 @@
+pub mod Bodies
 pub mod Commas
 pub mod Conditions
 pub mod Turns

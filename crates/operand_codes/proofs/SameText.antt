@@ -3,7 +3,7 @@
 use mathlib.Core.Path.{_≡_, refl, sym, ap, _∙_}
 use mathlib.Core.Bool.{Bool, true, false}
 use mathlib.Core.List.{List, [], _∷_, _++_, append-nil}
-use Prim.Native.Nat.{ℕ, suc, _+_, _*_, _≤_, _<_}
+use Prim.Native.Nat.{ℕ, _+_, _≤_, _<_}
 use native.Mathlib.Numerals.{add-one}
 use native.Mathlib.Omega.{arith}
 use lib.ListN.{length, getD, take, drop, length-drop, drop-of-length-le}
@@ -14,8 +14,8 @@ use Rattle.lists.specs.PutLaws.{put-fits}
 use Rattle.tokens.specs.Token.{Token}
 use Rattle.tokens.specs.Listing.{textOf}
 use Rattle.x86.specs.Words.{sameWord}
-use Rattle.codes.specs.Code.{Event, decode}
-use Rattle.codes.specs.Coded.{bytesIn, countIn, codesIn, lastIn, isPlain, counted, marked, Coded, Started}
+use Rattle.codes.specs.Code.{decode}
+use Rattle.codes.specs.Coded.{countIn, codesIn, lastIn, isPlain, counted, marked, Coded, Started}
 use Rattle.codes.specs.Spelled.{spelled}
 use Rattle.operand.proofs.Printing.{other-lengths}
 use Rattle.operand_codes.specs.Alone.{Alone}
@@ -73,11 +73,8 @@ module _ (t s c d x y : List ℕ) (p : Alone t s c x) (q : Alone t s d y) (n m :
     second-text : spelled (decode t s b) ≡ y
     second-text = ap (λ (l : List ℕ). spelled (decode t s l)) v ∙ q .text
 
-    pub first-count : n ≡ length (spelled (decode t s a))
-    first-count = e ∙ p .bytes ∙ ap length (sym first-text)
-
-    pub second-count : n ≡ m → n ≡ length (spelled (decode t s b))
-    second-count h = h ∙ f ∙ q .bytes ∙ ap length (sym second-text)
+    pub both-counts : n ≡ m → (n ≡ length (spelled (decode t s a))) × (n ≡ length (spelled (decode t s b)))
+    both-counts h = (e ∙ p .bytes ∙ ap length (sym first-text), h ∙ f ∙ q .bytes ∙ ap length (sym second-text))
 
     pub codes-same : a ≡ b → true ≡ sameWord x y
     codes-same h =

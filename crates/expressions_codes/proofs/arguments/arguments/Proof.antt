@@ -13,7 +13,9 @@ same-length : tie.Need-same-length
 same-length c = search needs
 
 returns : tie.Need-returns
-returns c = as-tokens (by-pushes (c .before .before .before .before .before .before .before .before .before .args .h) (c .before .before .before .before .before .before .before .before .before .args .rec .now) (c .before .before .before .before .before .before .before .before .before .args .first) (c .before .before .before .before .before .before .before .before .before .args .i) (c .before .before .before .before .before .before .before .before .before .args .mask) (c .before .before .before .before .if1 .taken)) (c .before .before .pushed-arguments .ensures)
+returns c =
+    let a = c .before .before .before .before .before .before .before .before .before .args in
+    as-tokens (by-pushes (a .h) (a .rec .now) (a .first) (a .i) (a .mask) (c .before .before .before .before .if1 .taken)) (c .before .before .pushed-arguments .ensures)
 
 register-arguments-requires : tie.Need-register-arguments-requires
 register-arguments-requires c κs = search needs
@@ -22,7 +24,9 @@ same-length-2 : tie.Need-same-length-2
 same-length-2 c = search needs
 
 returns-2 : tie.Need-returns-2
-returns-2 c = as-tokens (by-registers (c .before .before .before .before .before .before .before .before .before .args .h) (c .before .before .before .before .before .before .before .before .before .args .rec .now) (c .before .before .before .before .before .before .before .before .before .args .first) (c .before .before .before .before .before .before .before .before .before .args .i) (c .before .before .before .before .before .before .before .before .before .args .mask) (c .before .before .before .before .if1 .left)) (c .before .before .register-arguments .ensures (c .before .before .before .before .before .before .before .before .before .args .rec .now))
+returns-2 c =
+    let a = c .before .before .before .before .before .before .before .before .before .args in
+    as-tokens (by-registers (a .h) (a .rec .now) (a .first) (a .i) (a .mask) (c .before .before .before .before .if1 .left)) (c .before .before .register-arguments .ensures (a .rec .now))
 
 pub arguments-spec : {M : Type 1} → statement M
 arguments-spec =

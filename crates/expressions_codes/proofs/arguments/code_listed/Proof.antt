@@ -15,7 +15,9 @@ same-length : tie.Need-same-length
 same-length c = search needs
 
 returns : tie.Need-returns
-returns c = with-comma (c .before .before .before .before .before .before .before .before .before .before .before .before .before .args .comma) (c .before .before .before .before .before .before .before .before .if1 .taken) (c .before .before .before .before .before .before .code-word .ensures (c .before .before .before .before .before .before .before .before .before .before .before .before .before .args .rec .now)) (c .before .before .op .ensures)
+returns c =
+    let a = c .before .before .before .before .before .before .before .before .before .before .before .before .before .args in
+    with-comma (a .comma) (c .before .before .before .before .before .before .before .before .if1 .taken) (c .before .before .before .before .before .before .code-word .ensures (a .rec .now)) (c .before .before .op .ensures)
 
 op-requires-2 : tie.Need-op-requires-2
 op-requires-2 c κs = search needs

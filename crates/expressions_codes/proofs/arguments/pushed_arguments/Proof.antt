@@ -1,14 +1,15 @@
 -- `arguments::pushed_arguments` meets its contract.
 -- The invariant: the pushes coded and those left are all of them.
-use mathlib.Core.Path.{_≡_, refl, ap, _∙_}
+use mathlib.Core.Path.{_≡_, refl}
 use mathlib.Core.Bool.{false}
-use Prim.Native.Nat.{ℕ, _-_}
+use Prim.Native.Nat.{_-_}
 use native.Mathlib.Omega.{arith}
-use lib.ListN.{length, drop}
+use lib.ListN.{length}
 use Rattle.codes.proofs.Coding.{coded-none}
 use Rattle.operand_codes.proofs.Tokens.{as-tokens}
 use Rattle.expressions.specs.Arguments.{pushesBack, pushed}
 use Rattle.expressions.proofs.Commas.{back-turn, back-stop, back-none}
+use Rattle.expressions_codes.proofs.Bodies.{bodies-are}
 use Rattle.expressions_codes.proofs.Commas.{all-pushed}
 use Rattle.expressions_codes.proofs.Turns.{Sofar, at-start, further, at-end}
 use borrow.Author.Needs.{needs}
@@ -45,7 +46,9 @@ same-length : tie.Need-same-length Inv-loop μ-loop
 same-length c = search needs
 
 returns : tie.Need-returns Inv-loop μ-loop
-returns c = as-tokens (all-pushed (c .before .before .before .before .before .before .before .before .before .before .args .h) (c .before .before .before .before .before .before .before .before .before .before .args .rec .now) _ (c .before .before .before .before .before .before .before .before .before .before .args .first) (c .before .before .before .before .before .before .before .before .before .before .args .i) ((c .before .before .before .before .from .ensures .0) ∙ ap (λ (x : ℕ). drop x (c .before .before .before .before .before .before .before .before .before .before .args .rec .now)) (c .before .before .before .before .before .bodies-at .ensures .0))) (at-end (c .before .before .before .loop .inv .1) (back-stop _ _ _ (c .before .before .before .loop .k) (c .before .before .before .before .before .before .before .before .before .before .args .h) (c .before .before .before .before .before .before .before .before .before .before .args .rec .now) (c .before .before .before .loop .comma) _ (c .before .before .loop-test .taken) (c .before .is-unskipped .ensures) (c .if1 .taken)))
+returns c =
+    let a = c .before .before .before .before .before .before .before .before .before .before .args in
+    as-tokens (all-pushed (a .h) (a .rec .now) _ (a .first) (a .i) (bodies-are (a .h) (a .rec .now) (c .before .before .before .before .from .ensures .0) (c .before .before .before .before .before .bodies-at .ensures .0))) (at-end (c .before .before .before .loop .inv .1) (back-stop _ _ _ (c .before .before .before .loop .k) (a .h) (a .rec .now) (c .before .before .before .loop .comma) _ (c .before .before .loop-test .taken) (c .before .is-unskipped .ensures) (c .if1 .taken)))
 
 is-unskipped-requires-2 : tie.Need-is-unskipped-requires-2 Inv-loop μ-loop
 is-unskipped-requires-2 c κs = search needs
@@ -60,16 +63,19 @@ loop-less : tie.Need-loop-less Inv-loop μ-loop
 loop-less c = search needs
 
 loop-again : tie.Need-loop-again Inv-loop μ-loop
-loop-again c = (
-  omega (arith, (c .before .before .code-pushed .kept .0), (c .before .before .before .before .before .before .before .before .before .loop .inv .0)),
-  further (c .before .before .before .before .before .before .before .before .before .loop .inv .1) (back-turn (c .before .before .before .before .before .before .before .before .before .before .before .before .before .before .before .before .args .h) (c .before .before .before .before .before .before .before .before .before .before .before .before .before .before .before .before .args .rec .now) _ _ ((c .before .before .before .before .before .before .before .before .before .before .from .ensures .0) ∙ ap (λ (x : ℕ). drop x (c .before .before .before .before .before .before .before .before .before .before .before .before .before .before .before .before .args .rec .now)) (c .before .before .before .before .before .before .before .before .before .before .before .bodies-at .ensures .0)) _ (c .before .before .before .before .before .before .before .before .before .loop .k) (c .before .before .before .before .before .before .before .before .loop-test .taken) (c .before .before .before .before .before .before .before .before .before .loop .comma) _ _ (c .before .before .before .before .before .before .before .is-unskipped .ensures) (c .before .before .before .before .before .before .if1 .left) (c .before .before .before .before .before .is-unskipped2 .ensures) _ (c .before .before .before .before .body-at .ensures)) (c .before .before .code-pushed .ensures),
-)
+loop-again c =
+    let a = c .before .before .before .before .before .before .before .before .before .before .before .before .before .before .before .before .args in (
+      omega (arith, (c .before .before .code-pushed .kept .0), (c .before .before .before .before .before .before .before .before .before .loop .inv .0)),
+      further (c .before .before .before .before .before .before .before .before .before .loop .inv .1) (back-turn (a .h) (a .rec .now) _ _ (bodies-are (a .h) (a .rec .now) (c .before .before .before .before .before .before .before .before .before .before .from .ensures .0) (c .before .before .before .before .before .before .before .before .before .before .before .bodies-at .ensures .0)) _ (c .before .before .before .before .before .before .before .before .before .loop .k) (c .before .before .before .before .before .before .before .before .loop-test .taken) (c .before .before .before .before .before .before .before .before .before .loop .comma) _ _ (c .before .before .before .before .before .before .before .is-unskipped .ensures) (c .before .before .before .before .before .before .if1 .left) (c .before .before .before .before .before .is-unskipped2 .ensures) _ (c .before .before .before .before .body-at .ensures)) (c .before .before .code-pushed .ensures),
+    )
 
 same-length-2 : tie.Need-same-length-2 Inv-loop μ-loop
 same-length-2 c = search needs
 
 returns-2 : tie.Need-returns-2 Inv-loop μ-loop
-returns-2 c = as-tokens (all-pushed (c .before .before .before .before .before .before .before .before .args .h) (c .before .before .before .before .before .before .before .before .args .rec .now) _ (c .before .before .before .before .before .before .before .before .args .first) (c .before .before .before .before .before .before .before .before .args .i) ((c .before .before .from .ensures .0) ∙ ap (λ (x : ℕ). drop x (c .before .before .before .before .before .before .before .before .args .rec .now)) (c .before .before .before .bodies-at .ensures .0))) (at-end (c .before .loop .inv .1) (back-none _ _ _ (c .before .loop .k) (c .before .before .before .before .before .before .before .before .args .h) (c .before .before .before .before .before .before .before .before .args .rec .now) (c .before .loop .comma) (c .loop-test .left)))
+returns-2 c =
+    let a = c .before .before .before .before .before .before .before .before .args in
+    as-tokens (all-pushed (a .h) (a .rec .now) _ (a .first) (a .i) (bodies-are (a .h) (a .rec .now) (c .before .before .from .ensures .0) (c .before .before .before .bodies-at .ensures .0))) (at-end (c .before .loop .inv .1) (back-none _ _ _ (c .before .loop .k) (a .h) (a .rec .now) (c .before .loop .comma) (c .loop-test .left)))
 
 pub pushed-arguments-spec : {M : Type 1} → statement M
 pushed-arguments-spec =

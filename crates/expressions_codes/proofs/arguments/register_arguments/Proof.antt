@@ -36,17 +36,20 @@ loop-less : tie.Need-loop-less Inv-loop μ-loop
 loop-less c = search needs
 
 loop-again : tie.Need-loop-again Inv-loop μ-loop
-loop-again c = (
-  omega (arith, (c .before .before .code-nth .kept .0), (c .before .before .before .before .before .loop .inv .0)),
-  omega (arith, (c .before .before .before .before .loop-test .taken)),
-  λ s. further (c .before .before .before .before .before .loop .inv .2 s) (nth-step (c .before .before .before .before .before .before .before .before .before .args .convention) (c .before .before .before .before .before .before .before .before .before .args .mask) _ (c .before .before .before .before .before .before .argument-count .ensures) (c .before .before .before .before .before .loop .k) (c .before .before .before .before .loop-test .taken)) (c .before .before .code-nth .ensures s),
-)
+loop-again c =
+    let a = c .before .before .before .before .before .before .before .before .before .args in (
+      omega (arith, (c .before .before .code-nth .kept .0), (c .before .before .before .before .before .loop .inv .0)),
+      omega (arith, (c .before .before .before .before .loop-test .taken)),
+      λ s. further (c .before .before .before .before .before .loop .inv .2 s) (nth-step (a .convention) (a .mask) _ (c .before .before .before .before .before .before .argument-count .ensures) (c .before .before .before .before .before .loop .k) (c .before .before .before .before .loop-test .taken)) (c .before .before .code-nth .ensures s),
+    )
 
 same-length : tie.Need-same-length Inv-loop μ-loop
 same-length c = search needs
 
 returns : tie.Need-returns Inv-loop μ-loop
-returns c s = as-tokens (all-left (c .before .before .before .before .before .args .convention) (c .before .before .before .before .before .args .mask) _ (c .before .before .argument-count .ensures)) (at-end (c .before .loop .inv .2 s) (none-left (c .before .before .before .before .before .args .convention) (c .before .before .before .before .before .args .mask) _ (c .before .before .argument-count .ensures) (c .before .loop .k) (c .loop-test .left)))
+returns c s =
+    let a = c .before .before .before .before .before .args in
+    as-tokens (all-left (a .convention) (a .mask) _ (c .before .before .argument-count .ensures)) (at-end (c .before .loop .inv .2 s) (none-left (a .convention) (a .mask) _ (c .before .before .argument-count .ensures) (c .before .loop .k) (c .loop-test .left)))
 
 pub register-arguments-spec : {M : Type 1} → statement M
 register-arguments-spec =

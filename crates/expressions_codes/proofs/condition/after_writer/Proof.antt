@@ -16,7 +16,9 @@ same-length : tie.Need-same-length
 same-length c = search needs
 
 returns : tie.Need-returns
-returns c = as-tokens (by-cmp (c .before .before .before .before .before .before .before .before .before .before .args .h) (c .before .before .before .before .before .before .before .before .before .before .args .rec .now) (c .before .before .before .before .before .before .before .before .before .before .args .body .now) (c .before .before .before .before .before .before .before .before .before .before .args .cc) _ (c .before .before .before .before .before .mnemonic .ensures) (c .before .before .before .before .if1 .taken)) (c .before .before .after-cmp .ensures)
+returns c =
+    let a = c .before .before .before .before .before .before .before .before .before .before .args in
+    as-tokens (by-cmp (a .h) (a .rec .now) (a .body .now) (a .cc) _ (c .before .before .before .before .before .mnemonic .ensures) (c .before .before .before .before .if1 .taken)) (c .before .before .after-cmp .ensures)
 
 after-test-requires : tie.Need-after-test-requires
 after-test-requires c κs = search needs
@@ -25,7 +27,9 @@ same-length-2 : tie.Need-same-length-2
 same-length-2 c = search needs
 
 returns-2 : tie.Need-returns-2
-returns-2 c = as-tokens (by-test (c .before .before .before .before .before .before .before .before .before .before .before .args .h) (c .before .before .before .before .before .before .before .before .before .before .before .args .rec .now) (c .before .before .before .before .before .before .before .before .before .before .before .args .body .now) (c .before .before .before .before .before .before .before .before .before .before .before .args .cc) _ (c .before .before .before .before .before .before .mnemonic .ensures) (c .before .before .before .before .before .if1 .left) (c .before .before .before .before .if2 .taken)) (c .before .before .after-test .ensures)
+returns-2 c =
+    let a = c .before .before .before .before .before .before .before .before .before .before .before .args in
+    as-tokens (by-test (a .h) (a .rec .now) (a .body .now) (a .cc) _ (c .before .before .before .before .before .before .mnemonic .ensures) (c .before .before .before .before .before .if1 .left) (c .before .before .before .before .if2 .taken)) (c .before .before .after-test .ensures)
 
 after-other-requires : tie.Need-after-other-requires
 after-other-requires c κs = search needs
@@ -34,7 +38,9 @@ same-length-3 : tie.Need-same-length-3
 same-length-3 c = search needs
 
 returns-3 : tie.Need-returns-3
-returns-3 c = as-tokens (by-other (c .before .before .before .before .before .before .before .before .before .before .before .args .h) (c .before .before .before .before .before .before .before .before .before .before .before .args .rec .now) (c .before .before .before .before .before .before .before .before .before .before .before .args .body .now) (c .before .before .before .before .before .before .before .before .before .before .before .args .cc) _ (c .before .before .before .before .before .before .mnemonic .ensures) (c .before .before .before .before .before .if1 .left) (c .before .before .before .before .if2 .left)) (c .before .before .after-other .ensures)
+returns-3 c =
+    let a = c .before .before .before .before .before .before .before .before .before .before .before .args in
+    as-tokens (by-other (a .h) (a .rec .now) (a .body .now) (a .cc) _ (c .before .before .before .before .before .before .mnemonic .ensures) (c .before .before .before .before .before .if1 .left) (c .before .before .before .before .if2 .left)) (c .before .before .after-other .ensures)
 
 pub after-writer-spec : {M : Type 1} → statement M
 after-writer-spec =

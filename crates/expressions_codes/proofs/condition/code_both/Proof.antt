@@ -18,7 +18,9 @@ same-length : tie.Need-same-length
 same-length c = search needs
 
 returns : tie.Need-returns
-returns c = in-parentheses (c .before .before .before .before .before .before .before .before .before .before .code-word .ensures (c .before .before .before .before .before .before .before .before .before .before .before .before .before .before .before .before .args .rec .now)) (c .before .before .before .before .before .before .code-and .ensures) (c .before .before .code-word2 .ensures (c .before .before .before .before .before .before .before .before .before .before .before .before .before .before .before .before .args .rec .now))
+returns c =
+    let a = c .before .before .before .before .before .before .before .before .before .before .before .before .before .before .before .before .args in
+    in-parentheses (c .before .before .before .before .before .before .before .before .before .before .code-word .ensures (a .rec .now)) (c .before .before .before .before .before .before .code-and .ensures) (c .before .before .code-word2 .ensures (a .rec .now))
 
 pub code-both-spec : {M : Type 1} → statement M
 code-both-spec =

@@ -12,7 +12,7 @@ use Rattle.expressions_codes.proofs.condition.code_flags.Tie as tie
 
 add-code-word : tie.Need-add-code-word
 add-code-word c =
-    let cc = (c .before .before .before .before .args .cc) in
+    let cc = c .before .before .before .before .args .cc in
     omega (arith, ltb-true cc 17 (both-yes (ltb 0 cc) (ltb cc 17) (c .before .if1 .taken) .1))
 
 code-word-requires : tie.Need-code-word-requires

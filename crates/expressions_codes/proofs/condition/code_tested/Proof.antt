@@ -16,7 +16,9 @@ same-length : tie.Need-same-length
 same-length c = search needs
 
 returns : tie.Need-returns
-returns c = as-tokens (tested-one (c .before .before .before .before .before .before .before .before .before .before .args .h) (c .before .before .before .before .before .before .before .before .before .before .args .rec .now) (c .before .before .before .before .before .before .before .before .before .before .args .body .now) _ (c .before .before .before .before .before .alike .ensures) (c .before .before .before .before .if1 .taken)) (c .before .before .op .ensures)
+returns c =
+    let a = c .before .before .before .before .before .before .before .before .before .before .args in
+    as-tokens (tested-one (a .h) (a .rec .now) (a .body .now) _ (c .before .before .before .before .before .alike .ensures) (c .before .before .before .before .if1 .taken)) (c .before .before .op .ensures)
 
 code-both-requires : tie.Need-code-both-requires
 code-both-requires c κs = search needs
@@ -25,7 +27,9 @@ same-length-2 : tie.Need-same-length-2
 same-length-2 c = search needs
 
 returns-2 : tie.Need-returns-2
-returns-2 c = as-tokens (tested-both (c .before .before .before .before .before .before .before .before .before .before .args .h) (c .before .before .before .before .before .before .before .before .before .before .args .rec .now) (c .before .before .before .before .before .before .before .before .before .before .args .body .now) _ (c .before .before .before .before .before .alike .ensures) (c .before .before .before .before .if1 .left)) (c .before .before .code-both .ensures)
+returns-2 c =
+    let a = c .before .before .before .before .before .before .before .before .before .before .args in
+    as-tokens (tested-both (a .h) (a .rec .now) (a .body .now) _ (c .before .before .before .before .before .alike .ensures) (c .before .before .before .before .if1 .left)) (c .before .before .code-both .ensures)
 
 pub code-tested-spec : {M : Type 1} → statement M
 code-tested-spec =

@@ -1,9 +1,7 @@
 -- `condition::condition` meets its contract.
 -- By whether there is a flag writer.
-use mathlib.Core.Path.{ap, _∙_}
-use Prim.Native.Nat.{ℕ}
-use lib.ListN.{drop}
 use Rattle.operand_codes.proofs.Tokens.{as-tokens}
+use Rattle.expressions_codes.proofs.Bodies.{bodies-are}
 use Rattle.expressions_codes.proofs.Conditions.{at-writer, at-none}
 use borrow.Author.Needs.{needs}
 use Rattle.expressions_codes.proofs.condition.condition.Statement.{statement}
@@ -40,13 +38,17 @@ same-length : tie.Need-same-length
 same-length c = search needs
 
 returns : tie.Need-returns
-returns c = as-tokens (at-writer (c .before .before .before .before .before .before .before .before .before .before .before .before .before .before .before .args .h) (c .before .before .before .before .before .before .before .before .before .before .before .before .before .before .before .args .rec .now) _ (c .before .before .before .before .before .before .before .before .before .before .before .before .before .before .before .args .first) (c .before .before .before .before .before .before .before .before .before .before .before .before .before .before .before .args .i) (c .before .before .before .before .before .before .before .before .before .before .before .before .before .before .before .args .cc) _ ((c .before .before .before .before .before .before .before .before .before .before .from .ensures .0) ∙ ap (λ (x : ℕ). drop x (c .before .before .before .before .before .before .before .before .before .before .before .before .before .before .before .args .rec .now)) (c .before .before .before .before .before .before .before .before .before .before .before .bodies-at .ensures .0)) (c .before .before .before .before .before .before .before .before .flag-writer .ensures) _ _ (c .before .before .before .before .before .before .p .given .1) (c .before .before .before .body-at .ensures)) (c .before .before .after-writer .ensures)
+returns c =
+    let a = c .before .before .before .before .before .before .before .before .before .before .before .before .before .before .before .args in
+    as-tokens (at-writer (a .h) (a .rec .now) _ (a .first) (a .i) (a .cc) _ (bodies-are (a .h) (a .rec .now) (c .before .before .before .before .before .before .before .before .before .before .from .ensures .0) (c .before .before .before .before .before .before .before .before .before .before .before .bodies-at .ensures .0)) (c .before .before .before .before .before .before .before .before .flag-writer .ensures) _ _ (c .before .before .before .before .before .before .p .given .1) (c .before .before .before .body-at .ensures)) (c .before .before .after-writer .ensures)
 
 same-length-2 : tie.Need-same-length-2
 same-length-2 c = search needs
 
 returns-2 : tie.Need-returns-2
-returns-2 c = as-tokens (at-none (c .before .before .before .before .before .before .before .before .before .before .before .before .before .args .h) (c .before .before .before .before .before .before .before .before .before .before .before .before .before .args .rec .now) _ (c .before .before .before .before .before .before .before .before .before .before .before .before .before .args .first) (c .before .before .before .before .before .before .before .before .before .before .before .before .before .args .i) (c .before .before .before .before .before .before .before .before .before .before .before .before .before .args .cc) _ ((c .before .before .before .before .before .before .before .before .from .ensures .0) ∙ ap (λ (x : ℕ). drop x (c .before .before .before .before .before .before .before .before .before .before .before .before .before .args .rec .now)) (c .before .before .before .before .before .before .before .before .before .bodies-at .ensures .0)) (c .before .before .before .before .before .before .flag-writer .ensures) (c .before .before .before .before .enum-told .given .1)) (c .before .before .code-flags .ensures (c .before .before .before .before .before .before .before .before .before .before .before .before .before .args .rec .now))
+returns-2 c =
+    let a = c .before .before .before .before .before .before .before .before .before .before .before .before .before .args in
+    as-tokens (at-none (a .h) (a .rec .now) _ (a .first) (a .i) (a .cc) _ (bodies-are (a .h) (a .rec .now) (c .before .before .before .before .before .before .before .before .from .ensures .0) (c .before .before .before .before .before .before .before .before .before .bodies-at .ensures .0)) (c .before .before .before .before .before .before .flag-writer .ensures) (c .before .before .before .before .enum-told .given .1)) (c .before .before .code-flags .ensures (a .rec .now))
 
 pub condition-spec : {M : Type 1} → statement M
 condition-spec =

@@ -1,7 +1,7 @@
 -- `alike::alike` meets its contract.
 -- Texts of other lengths differ; the same codes have the same text.
 use Rattle.operand.specs.Alike.{alike}
-use Rattle.operand_codes.proofs.SameText.{counts-differ, first-count, second-count, codes-same, texts-same}
+use Rattle.operand_codes.proofs.SameText.{counts-differ, both-counts, codes-same, texts-same}
 use borrow.Author.Needs.{needs}
 use Rattle.operand_codes.proofs.alike.alike.Statement.{statement}
 use Rattle.operand_codes.proofs.alike.alike.Tie as tie
@@ -54,7 +54,7 @@ unfolding alike
 returns-2 c = codes-same _ _ _ _ _ _ (c .before .before .before .before .before .before .before .before .before .before .before .before .before .before .before .code-alone .ensures) (c .before .before .before .before .before .before .before .before .before .before .before .before .code-alone2 .ensures) _ _ (c .before .before .before .before .before .before .before .before .before .u64-in .ensures .0) (c .before .before .before .before .before .before .before .u64-in2 .ensures .0) _ _ (c .before .before .before .before .codes-of .ensures) (c .before .before .codes-of2 .ensures) (c .before .same-codes .ensures (c .if2 .taken))
 
 same-texts-requires : tie.Need-same-texts-requires
-same-texts-requires c κs = (first-count _ _ _ _ _ _ (c .before .before .before .before .before .before .before .before .before .before .before .before .before .before .before .code-alone .ensures) (c .before .before .before .before .before .before .before .before .before .before .before .before .code-alone2 .ensures) _ _ (c .before .before .before .before .before .before .before .before .before .u64-in .ensures .0) (c .before .before .before .before .before .before .before .u64-in2 .ensures .0) _ _ (c .before .before .before .before .codes-of .ensures) (c .before .before .codes-of2 .ensures), second-count _ _ _ _ _ _ (c .before .before .before .before .before .before .before .before .before .before .before .before .before .before .before .code-alone .ensures) (c .before .before .before .before .before .before .before .before .before .before .before .before .code-alone2 .ensures) _ _ (c .before .before .before .before .before .before .before .before .before .u64-in .ensures .0) (c .before .before .before .before .before .before .before .u64-in2 .ensures .0) _ _ (c .before .before .before .before .codes-of .ensures) (c .before .before .codes-of2 .ensures) (c .before .before .before .before .before .before .if1 .left))
+same-texts-requires c κs = both-counts _ _ _ _ _ _ (c .before .before .before .before .before .before .before .before .before .before .before .before .before .before .before .code-alone .ensures) (c .before .before .before .before .before .before .before .before .before .before .before .before .code-alone2 .ensures) _ _ (c .before .before .before .before .before .before .before .before .before .u64-in .ensures .0) (c .before .before .before .before .before .before .before .u64-in2 .ensures .0) _ _ (c .before .before .before .before .codes-of .ensures) (c .before .before .codes-of2 .ensures) (c .before .before .before .before .before .before .if1 .left)
 
 returns-3 : tie.Need-returns-3
 unfolding alike

@@ -43,10 +43,14 @@ loop-less : tie.Need-loop-less Inv-loop μ-loop
 loop-less c = search needs
 
 loop-again : tie.Need-loop-again Inv-loop μ-loop
-loop-again c = same-on (c .before .before .before .before .before .before .args .a .now) (c .before .before .before .before .before .before .args .b .now) (c .before .before .before .before .loop .i) (c .before .before .before .before .before .if1 .left) (c .before .before .before .loop-test .taken) (c .if2 .left) (c .before .before .before .before .loop .inv)
+loop-again c =
+    let a = c .before .before .before .before .before .before .args in
+    same-on (a .a .now) (a .b .now) (c .before .before .before .before .loop .i) (c .before .before .before .before .before .if1 .left) (c .before .before .before .loop-test .taken) (c .if2 .left) (c .before .before .before .before .loop .inv)
 
 returns-3 : tie.Need-returns-3 Inv-loop μ-loop
-returns-3 c = λ e. same-past (c .before .before .before .args .a .now) (c .before .before .before .args .b .now) (c .before .loop .i) (c .before .before .if1 .left) (c .loop-test .left) (c .before .loop .inv)
+returns-3 c =
+    let a = c .before .before .before .args in
+    λ e. same-past (a .a .now) (a .b .now) (c .before .loop .i) (c .before .before .if1 .left) (c .loop-test .left) (c .before .loop .inv)
 
 pub same-codes-spec : {M : Type 1} → statement M
 same-codes-spec =
