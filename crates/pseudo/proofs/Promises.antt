@@ -31,7 +31,7 @@ use Rattle.pseudo.proofs.Demand.{listing-demand3}
 
 -- ---- the numbers
 
-ask-within : (n : ℕ) (q : Bool) (l m : ℕ) → n ≤ m → l ≤ m → ask n q l ≤ m
+pub ask-within : (n : ℕ) (q : Bool) (l m : ℕ) → n ≤ m → l ≤ m → ask n q l ≤ m
 ask-within n true l m a b = b
 ask-within n false l m a b = a
 
@@ -39,25 +39,20 @@ else-within : (a b m : ℕ) → a ≤ m → b ≤ m → orElse a b ≤ m
 else-within zero b m p q = q
 else-within (suc a) b m p q = p
 
-first-within : (s : List ℕ) (from to : ℕ) → firstNo s from to ≤ 14
+-- three questions, one behind the other
+three-within : (a b c m : ℕ) (p q r : Bool) → a ≤ m → b ≤ m → c ≤ m → ask a p (ask b q (ask c r 0)) ≤ m
+three-within a b c m p q r x y z = ask-within a p (ask b q (ask c r 0)) m x (ask-within b q (ask c r 0) m y (ask-within c r 0 m z (omega arith)))
+
+pub first-within : (s : List ℕ) (from to : ℕ) → firstNo s from to ≤ 11
 unfolding firstNo sizesNo blocksNo contentsNo rangeNo
 first-within s from to =
     let h = headerOf s in
-    let four = ask 4 (lengthOk h s) 0 in
-    let three = ask 3 (limitsOk h) four in
-    let seven = ask 7 (edgeKindsAsked h s) 0 in
-    let ten = ask 10 (spansAsked h s) 0 in
-    else-within (sizesNo s) (orElse (blocksNo h s) (orElse (contentsNo h s) (rangeNo h from to))) 14
-    (ask-within 1 (headerFits s) (ask 2 (fieldsOk h) three) 14 (omega arith)
-    (ask-within 2 (fieldsOk h) three 14 (omega arith)
-    (ask-within 3 (limitsOk h) four 14 (omega arith) (ask-within 4 (lengthOk h s) 0 14 (omega arith) (omega arith)))))
-    (else-within (blocksNo h s) (orElse (contentsNo h s) (rangeNo h from to)) 14
-    (ask-within 5 (marksAsked h s) (ask 6 (startsAsked h s) seven) 14 (omega arith)
-    (ask-within 6 (startsAsked h s) seven 14 (omega arith) (ask-within 7 (edgeKindsAsked h s) 0 14 (omega arith) (omega arith))))
-    (else-within (contentsNo h s) (rangeNo h from to) 14
-    (ask-within 8 (bodiesAsked h s) (ask 9 (atlasAsked h s) ten) 14 (omega arith)
-    (ask-within 9 (atlasAsked h s) ten 14 (omega arith) (ask-within 10 (spansAsked h s) 0 14 (omega arith) (omega arith))))
-    (ask-within 11 (leb from to && leb to (h .blocks)) 0 14 (omega arith) (omega arith))))
+    let sizes =
+    ask-within 1 (headerFits s) _ 11 (omega arith) (three-within 2 3 4 11 (fieldsOk h) (limitsOk h) (lengthOk h s) (omega arith) (omega arith) (omega arith)) in
+    let marks = three-within 5 6 7 11 (marksAsked h s) (startsAsked h s) (edgeKindsAsked h s) (omega arith) (omega arith) (omega arith) in
+    let contents = three-within 8 9 10 11 (bodiesAsked h s) (atlasAsked h s) (spansAsked h s) (omega arith) (omega arith) (omega arith) in
+    let range = ask-within 11 (leb from to && leb to (h .blocks)) 0 11 (omega arith) (omega arith) in
+    else-within (sizesNo s) _ 11 sizes (else-within (blocksNo h s) _ 11 marks (else-within (contentsNo h s) _ 11 contents range))
 
 room-within : (z : Sizes) (r : Rooms) → roomNo z r ≤ 14
 unfolding roomNo
@@ -69,7 +64,7 @@ room-within z r =
 
 call-within : (s : List ℕ) (from to : ℕ) (r : Rooms) → callNo s from to r ≤ 14
 unfolding callNo
-call-within s from to r = else-within (firstNo s from to) (roomNo (sizes s from to) r) 14 (first-within s from to) (room-within (sizes s from to) r)
+call-within s from to r = else-within (firstNo s from to) (roomNo (sizes s from to) r) 14 (omega (arith, first-within s from to)) (room-within (sizes s from to) r)
 
 number-is : (z : Sizes) (n : ℕ) → numberOf (answerFor z n) ≡ n
 number-is z zero = refl
