@@ -3,13 +3,14 @@
 // the lists of sources, and who jumps to a place is sought between its first and last source.
 use crate::edges::Wanted;
 use crate::edges::has_edge;
-use crate::edges::has_leaving_edge;
+use crate::edges::leaves_from;
 use crate::graph::has_condition;
 use crate::graph::is_outside;
 use crate::sources::has_exposed;
 use crate::sources::search_end;
 use crate::sources::search_start;
 use record::blocks::Place;
+use record::blocks::start_at;
 ghost use mathlib.Core.Bool.{_&&_};
 ghost use mathlib.Core.Path.{_≡_};
 ghost use Prim.Native.Nat.{_+_, _-_};
@@ -114,13 +115,15 @@ pub fn has_outside_jump_to(
     has_outside_edge(blocks, edges, low, high, from, to, Wanted::JumpTo(i))
 }
 
-// A block from `from` up to `to` has an edge to an address below the start of `from`, that of `to` excepted.
+// A block from `from` up to `to` has an edge to an address below the start of `from`, that of `to` excepted: both starts are read once.
 pub fn region_escapes(blocks: &[u16], starts: &[u8], targets: &[u8], from: Place, to: Place) -> bool
     ensures { λ r. ⌜ r ≡ escapes (now (blocks .entry)) (now (starts .entry)) (now (targets .entry)) (from .0) (to .0) ⌝ }
 {
+    let first = start_at(starts, from);
+    let excepted = start_at(starts, to);
     let mut k = from.0;
     while k < to.0 {
-        if has_leaving_edge(blocks, starts, targets, from, to, Place(k)) {
+        if leaves_from(blocks, starts, targets, from, to, first, excepted, Place(k)) {
             return true;
         }
         k += 1;

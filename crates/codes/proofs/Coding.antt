@@ -11,9 +11,9 @@ use lib.ListN.{length, getD, length-append}
 use Rattle.lists.specs.Choice.{pick}
 use Rattle.lists.specs.PutLaws.{put-none, put-append}
 use Rattle.tokens.specs.Token.{Token}
-use Rattle.tokens.specs.Sheet.{asText}
+use Rattle.tokens.specs.Token.{asText}
 use Rattle.tokens.specs.Listing.{textOf}
-use Rattle.tokens.specs.ListingLaws.{text-append}
+use Rattle.tokens.proofs.ListingLaws.{text-append}
 use Rattle.codes.specs.Code.{Event, decode}
 use Rattle.codes.specs.Code.Event.{tok}
 use Rattle.codes.specs.Coded.{wrap, counted, lastKind, fresh, joinsLast, marked, tokensIn, countIn, lastIn, isPlain, Coded}
@@ -21,7 +21,7 @@ use Rattle.codes.specs.Coded.{wrap, counted, lastKind, fresh, joinsLast,
 wrap-sum : (x y z : ℕ) → wrap (wrap (x + y) + z) ≡ wrap (x + (y + z))
 wrap-sum x y z = omega arith
 
-wrap-more : {u v : ℕ} (x y z : ℕ) → u ≡ wrap (x + y) → v ≡ wrap (u + z) → v ≡ wrap (x + (y + z))
+pub wrap-more : {u v : ℕ} (x y z : ℕ) → u ≡ wrap (x + y) → v ≡ wrap (u + z) → v ≡ wrap (x + (y + z))
 wrap-more x y z e f = f ∙ rw e (wrap-sum x y z)
 
 counted-append : (p : Bool) (a b : List Token) → counted p (a ++ b) ≡ counted p a ++ counted p b

@@ -24,7 +24,7 @@ module _ (t s : List ℕ) where
     event-end h = rw (le-leb 7 (whatIn c) h)
 
   -- the first code of a list
-  first : (c : ℕ) (cs : List ℕ) → decode t s (c ∷ cs) ≡ event t s c (getD cs 0 0) ∷ decode t s (drop (pick (hasValue c) 1 0) cs)
+  pub first : (c : ℕ) (cs : List ℕ) → decode t s (c ∷ cs) ≡ event t s c (getD cs 0 0) ∷ decode t s (drop (pick (hasValue c) 1 0) cs)
   unfolding decode
   first c [] = ap (λ (es : List Event). event t s c 0 ∷ es) (go (hasValue c))
     where

@@ -1,10 +1,13 @@
+pub mod CodedLines
 pub mod Coding
 pub mod Decoded
 pub mod EachToken
 pub mod Fields
 pub mod Five
+pub mod LineFresh
 pub mod Made
 pub mod OneToken
 pub mod Prefixed
 pub mod SpelledLaws
 pub mod TableLaws
+pub mod TableMade

@@ -24,7 +24,7 @@ word-at t at =
     rw (f, e)
 
 pub prefixed-word : (t s c c′ : List ℕ) (w v kind n m : ℕ) → t ≡ tableBytes → w < 102 → kind ≡ u8At t (32 * w) → n ≡ u8At t (32 * w + 1) → m ≡ length (hexText true v)
-    → Added c c′ kind 4 0 (32 * w) (n + m) (v ∷ []) → Coded t s c c′ (prefixed w v ∷ [])
+    → Added c c′ kind 4 0 (32 * w) (n + m) (v ∷ []) → Coded t s c c′ (prefixed (wordToken w) v ∷ [])
 unfolding prefixed
 prefixed-word t s c c′ w v kind n m e h p q l a =
     let k : kind < 8 = rw p (word-kind t e w h) in

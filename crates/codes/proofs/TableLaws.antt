@@ -6,14 +6,14 @@ use mathlib.Core.List.{List, [], _∷_, _++_}
 use Prim.Native.Nat.{ℕ, zero, suc, _+_, _*_, _≤_, _<_}
 use native.Mathlib.Omega.{arith}
 use lib.Dec.{eqb, ltb, eqb→eq, ltb→lt}
-use lib.ListN.{length, getD, drop, List·getD-eq-default}
+use lib.ListN.{length, getD, drop, length-append, List·getD-eq-default}
 use Rattle.lists.specs.Below.{below-at}
 use Rattle.lists.specs.Bytes.{u8At}
 use Rattle.lists.specs.Entries.{entry}
 use Rattle.tokens.specs.Token.{Token, token}
 use Rattle.tokens.specs.Words.{words, wordToken, wordBytes}
 use Rattle.tokens.proofs.Rows.{size}
-use Rattle.x86.specs.Table.{registerTable, mnemonicTable, isaBytes, textAt}
+use Rattle.x86.specs.Table.{registerTable, mnemonicTable, conditionTable, isaBytes, textAt}
 use Rattle.x86.specs.Registers.{registerNames, registerName}
 use Rattle.x86.specs.Mnemonics.{mnemonicNames, mnemonicName}
 use Rattle.x86.proofs.Columns.{register-spelt, mnemonic-spelt}
@@ -77,8 +77,19 @@ isa-behind : drop 3264 tableBytes ≡ isaBytes
 unfolding tableBytes
 isa-behind = drop-behind wordBytes isaBytes 0 3264 (omega (arith, size))
 
+isa-size : length isaBytes ≡ 2152
+unfolding isaBytes registerTable mnemonicTable conditionTable registerNames registerName mnemonicNames mnemonicName
+isa-size = refl
+
+pub table-size : length tableBytes ≡ 5416
+unfolding tableBytes
+table-size = omega (arith, length-append wordBytes isaBytes, size, isa-size)
+
 -- the table as it is lent
 module _ (t : List ℕ) (e : t ≡ tableBytes) where
+  pub bytes : length t ≡ 5416
+  bytes = rw e table-size
+
   pub isa-is : (r : List ℕ) → r ≡ drop 3264 t → r ≡ isaBytes
   isa-is r h = h ∙ rw e isa-behind
 

@@ -9,7 +9,7 @@ use lib.ListN.{length, getD, drop}
 use Rattle.lists.specs.Choice.{pick}
 use Rattle.lists.specs.Put.{put}
 use Rattle.tokens.specs.Token.{Token}
-use Rattle.tokens.specs.Sheet.{joining, asText}
+use Rattle.tokens.specs.Token.{joining, asText}
 use Rattle.tokens.specs.Listing.{textOf}
 use Rattle.codes.specs.Code.{Event, codeOf, lineEnd, decode}
 use Rattle.codes.specs.Code.Event.{tok}

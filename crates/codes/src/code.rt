@@ -2,7 +2,6 @@
 use crate::state::put_code;
 use crate::state::put_valued;
 use lists::parts::part;
-use lists::reads::u8_at;
 use text::lengths::literal_length;
 use text::lengths::num_length;
 use text::number::hex_count;
@@ -26,10 +25,11 @@ ghost use Rattle.codes.specs.Tables.{tableBytes};
 fn code_text(codes: &mut [u64], tables: &[u8], k: u8, at: u16)
     requires { ⌜ 5 ≤ length (now codes) ⌝ }
     requires { ⌜ k < 8 ⌝ }
+    requires { ⌜ at < length (now tables) ⌝ }
     requires { ⌜ u8At (now tables) at ≡ length (textAt (now tables) at) ⌝ }
     ensures { λ _. ⌜ ((s : List ℕ) → Coded (now (tables .entry)) s (now (codes .entry)) (now (codes .exit)) (token k (textAt (now (tables .entry)) at) ∷ [])) ⌝ }
 {
-    let n = u8_at(tables, at as usize);
+    let n = tables[at as usize];
     put_code(codes, k, 0, n as u16, at as u32 + 1, n as usize)
 }
 
@@ -41,7 +41,7 @@ pub fn code_word(codes: &mut [u64], tables: &[u8], w: u8)
 {
     if w < 102 {
         let at = 32 * w as u16;
-        return code_text(codes, tables, u8_at(tables, at as usize), at + 1);
+        return code_text(codes, tables, tables[at as usize], at + 1);
     }
     put_code(codes, 0, 0, 0, 0, 0)
 }
@@ -106,11 +106,11 @@ pub fn code_prefixed(codes: &mut [u64], tables: &[u8], w: u8, v: u64)
     requires { ⌜ 5 ≤ length (now codes) ⌝ }
     requires { ⌜ now tables ≡ tableBytes ⌝ }
     requires { ⌜ w < 102 ⌝ }
-    ensures { λ _. ⌜ ((s : List ℕ) → Coded (now (tables .entry)) s (now (codes .entry)) (now (codes .exit)) (prefixed w v ∷ [])) ⌝ }
+    ensures { λ _. ⌜ ((s : List ℕ) → Coded (now (tables .entry)) s (now (codes .entry)) (now (codes .exit)) (prefixed (wordToken w) v ∷ [])) ⌝ }
 {
     let at = 32 * w as u32;
-    let kind = u8_at(tables, at as usize);
-    let n = u8_at(tables, at as usize + 1);
+    let kind = tables[at as usize];
+    let n = tables[at as usize + 1];
     put_valued(codes, kind, 4, at, n as usize + hex_count(v), v)
 }
 

@@ -9,12 +9,23 @@ use text::lengths::literal_length;
 use text::lengths::num_length;
 use text::number::hex_count;
 ghost use mathlib.Core.Path.{_≡_};
+ghost use Prim.Native.Nat.{_+_, _≤_};
 ghost use lib.Dec.{leb};
-ghost use lib.ListN.{length, getD};
+ghost use lib.ListN.{length, getD, take};
 ghost use Rattle.lists.specs.Choice.{pick};
 ghost use Rattle.x86.specs.Words.{sameWord};
+ghost use Rattle.codes.specs.Coded.{countIn, codesIn};
 ghost use Rattle.codes.specs.Code.{lineEnd, whatIn, hasValue, textIn, decode};
 ghost use Rattle.codes.specs.Spelled.{spelled};
+
+// The codes of a list that holds all of them.
+pub fn codes_of(codes: &[u64]) -> &[u64]
+    requires { ⌜ 5 + countIn (now codes) ≤ length (now codes) ⌝ }
+    ensures { λ r. ⌜ now r ≡ take (countIn (now (codes .entry))) (codesIn (now (codes .entry))) ⌝ }
+{
+    let n = codes[2] as usize;
+    &codes[5..5 + n]
+}
 
 // How many numbers a code takes.
 pub fn width(c: u64) -> usize

@@ -12,8 +12,6 @@ use lib.Seq.{drop-cons}
 use borrow.Author.Tests.{lt-ltb, eq-eqb, ne-eqb}
 use Rattle.lists.specs.Choice.{pick}
 use Rattle.tokens.specs.Token.{Token}
-use Rattle.tokens.specs.Words.{words, wordToken}
-use Rattle.tokens.specs.Sheet.{Sheet, push, pushes}
 use Rattle.x86.specs.Conventions.{argumentRegisters, argumentRegister, argumentCount}
 use Rattle.x86.proofs.Written.{up-to}
 use Rattle.record.specs.declared.header.Header.{Header}
@@ -23,18 +21,11 @@ use Rattle.operand.specs.Memory.{registerToken}
 use Rattle.operand.specs.Operand.{opTokens}
 use Rattle.expressions.specs.Condition.{bodyOf}
 use Rattle.expressions.specs.Arguments.{commaIf, listed, registerArguments, isUnskipped, pushesBack, pushed, argumentTokens}
-use Rattle.expressions.specs.Turns.{comma-front}
 
-pub comma-then : (S S₁ S₂ : Sheet) (b : Bool) (ts : List Token) → b ≡ true → S₁ ≡ push S (wordToken 4) → S₂ ≡ pushes S₁ ts → S₂ ≡ pushes S (commaIf b ts)
-unfolding pushes wordToken words
-comma-then S S₁ S₂ b ts e p q = rw e (q ∙ ap (λ (s : Sheet). pushes s ts) p)
-
-pub no-comma : (S S₁ : Sheet) (b : Bool) (ts : List Token) → b ≡ false → S₁ ≡ pushes S ts → S₁ ≡ pushes S (commaIf b ts)
-no-comma S S₁ b ts e q = rw e q
-
--- a register as it was read
-pub as-read : (S S₁ : Sheet) (r q : ℕ) → r ≡ q → S₁ ≡ pushes S (registerToken r ∷ []) → S₁ ≡ pushes S (registerToken q ∷ [])
-as-read S S₁ r q e p = rw (← e) p
+-- a comma belongs to what it stands before
+pub comma-front : (b : Bool) (xs ys : List Token) → commaIf b (xs ++ ys) ≡ commaIf b xs ++ ys
+comma-front true xs ys = refl
+comma-front false xs ys = refl
 
 -- the registers from k on, of n
 abbrev pub registersLeft : ℕ → ℕ → ℕ → List Token

@@ -2,5 +2,10 @@ pub mod Search
 pub mod Written
 pub mod Relations
 pub mod Commas
+pub mod CodedCommas
+pub mod Bounds
+pub mod Turns
+pub mod Bodies
+pub mod Conditions
 pub mod Shows
 pub mod ArgumentLaw

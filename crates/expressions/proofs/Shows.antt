@@ -11,9 +11,8 @@ use lib.Bits.{bitAnd}
 use lib.Dec.{eqb}
 use lib.IntN.{pos}
 use Rattle.lists.specs.Choice.{pick}
-use Rattle.lists.specs.Every.{both-yes}
 use Rattle.tokens.specs.Listing.{textOf}
-use Rattle.x86.specs.Words.{wordsOf, isOneOf, sameWord, isWordOf}
+use Rattle.x86.specs.Words.{wordsOf, isOneOf, isWordOf}
 use Rattle.x86.specs.Mnemonics as mnemonic
 use Rattle.x86.specs.Conditions.{conditionNames, conditionName, among, negate, isRelation, relationAfterCmp, relationAfterTest, related, printsUnsigned}
 use Rattle.x86.specs.Flags.{Flags, signed, test, conditionHolds}
@@ -26,6 +25,7 @@ use Rattle.record.specs.Layout.{bodiesOf}
 use Rattle.record.specs.Body.{mnemonicOf}
 use Rattle.operand.specs.Operand.{opTokens}
 use Rattle.operand.specs.Alike.{alike}
+use Rattle.operand.proofs.Texts.{same-text}
 use Rattle.expressions.specs.Condition.{flagWriter, bodyOf, afterCmp, afterTest, afterWriter, conditionAfter, conditionTokens}
 use Rattle.expressions.specs.Shown.{Reading, turnedIf, valueOf, AfterCmp, AfterTest, Shows}
 
@@ -39,15 +39,6 @@ some-bits w e = by (eqb w 8) (eqb w 16) (eqb w 32) (eqb w 64) refl refl refl ref
     by false false true d p q r t e = omega (arith, eqb-true w 32 r)
     by false false false true p q r t e = omega (arith, eqb-true w 64 t)
     by false false false false p q r t e = absurd (let z : _≡_ {A = ℕ} 0 1 = cc in omega arith)
-
--- texts that are the same bytes are equal
-same-text : (x y : List ℕ) → sameWord x y ≡ true → x ≡ y
-same-text [] [] e = refl
-same-text [] (b ∷ y) e = absurd (let z : _≡_ {A = ℕ} 0 1 = cc in omega arith)
-same-text (a ∷ x) [] e = absurd (let z : _≡_ {A = ℕ} 0 1 = cc in omega arith)
-same-text (a ∷ x) (b ∷ y) e =
-    let q = both-yes (eqb a b) (sameWord x y) e in
-    rw (eqb-true a b (q .0), same-text x y (q .1))
 
 -- condition k shown by condition k′: as it is, or turned over by its opposite
 record ShownBy (k k′ : ℕ) (turned : Bool) : Type 0 where

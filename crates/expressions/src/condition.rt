@@ -1,4 +1,7 @@
 // Conditions: the nearest flag writer before the tested instruction, in the same block.
+use codes::code::code_num;
+use codes::code::code_word;
+use codes::tables::isa_of;
 use lists::reads::from;
 use operand::alike::alike;
 use operand::operand::op;
@@ -7,9 +10,6 @@ use record::body::mnemonic;
 use record::header::Header;
 use record::layout::bodies_at;
 use record::search::Found;
-use tokens::pen::Pen;
-use tokens::push::push_num;
-use tokens::push::push_word;
 use tokens::words::AND;
 use tokens::words::CLOSE;
 use tokens::words::EQUAL;
@@ -22,18 +22,19 @@ use x86::conditions::relation_after_test;
 use x86::mnemonics::writes_flags;
 ghost use mathlib.Core.Path.{_≡_};
 ghost use mathlib.Core.Bool.{true, false};
-ghost use mathlib.Core.List.{[], _∷_, _++_};
-ghost use Prim.Native.Nat.{_-_, _<_};
+ghost use mathlib.Core.List.{[], _∷_, _++_, List};
+ghost use Prim.Native.Nat.{_-_, _<_, ℕ, _≤_};
 ghost use Rattle.tokens.specs.Token.{punct};
-ghost use Rattle.tokens.specs.Words.{wordBytes};
-ghost use Rattle.tokens.specs.Sheet.{sheet, pushes};
 ghost use Rattle.x86.specs.Table.{isaBytes};
 ghost use Rattle.x86.specs.Conditions.{printsUnsigned};
 ghost use Rattle.operand.specs.Expr.{wrapIf};
 ghost use Rattle.operand.specs.Memory.{number};
 ghost use Rattle.operand.specs.Operand.{opTokens};
-ghost use Rattle.operand.specs.Tables.{Tables};
 ghost use Rattle.expressions.specs.Condition.{bodyOf, flagWriter, flagsWord, operator, unsignedIf, afterCmp, tested, afterTest, afterOther, afterWriter, conditionTokens};
+ghost use lib.ListN.{length};
+ghost use Rattle.codes.specs.Coded.{Coded};
+ghost use Rattle.codes.specs.Tables.{tableBytes};
+ghost use Rattle.operand.specs.Lent.{Lent};
 
 // The body of instruction i.
 pub fn body_of(rec: &[u8], h: Header, i: u16) -> &[u8]
@@ -59,262 +60,137 @@ pub fn flag_writer(isa: &[u8], bodies: &[u8], first: u16, i: u16) -> Found
 }
 
 // `__flags_` and the condition's name; for a number that names no condition an empty text.
-fn push_flags(
-    text: &mut [u8],
-    ends: &mut [u32],
-    kinds: &mut [u8],
-    pen: Pen,
-    words: &[u8],
-    cc: u8,
-) -> Pen
-    requires { ⌜ now words ≡ wordBytes ⌝ }
-    ensures { λ r. ⌜ sheet (now (text .exit)) (now (ends .exit)) (now (kinds .exit)) r
-        ≡ pushes (sheet (now (text .entry)) (now (ends .entry)) (now (kinds .entry)) pen) (flagsWord cc ∷ []) ⌝ }
+fn code_flags(codes: &mut [u64], tables: &[u8], cc: u8)
+    requires { ⌜ (5 ≤ length (now codes)) × (now tables ≡ tableBytes) ⌝ }
+    ensures { λ _. ⌜ ((s : List ℕ) → Coded (now (tables .entry)) s (now (codes .entry)) (now (codes .exit)) (flagsWord cc ∷ [])) ⌝ }
 {
     if (0 < cc) & (cc < 17) {
-        return push_word(text, ends, kinds, pen, words, 75 + cc);
+        return code_word(codes, tables, 75 + cc);
     }
-    push_word(text, ends, kinds, pen, words, 255)
+    code_word(codes, tables, 255)
 }
 
 // An operator, and 0 behind it.
-fn push_against(
-    text: &mut [u8],
-    ends: &mut [u32],
-    kinds: &mut [u8],
-    pen: Pen,
-    words: &[u8],
-    relation: u8,
-) -> Pen
-    requires { ⌜ now words ≡ wordBytes ⌝ }
+fn code_against(codes: &mut [u64], tables: &[u8], relation: u8)
+    requires { ⌜ (5 ≤ length (now codes)) × (now tables ≡ tableBytes) ⌝ }
     requires { ⌜ relation < 6 ⌝ }
-    ensures { λ r. ⌜ sheet (now (text .exit)) (now (ends .exit)) (now (kinds .exit)) r
-        ≡ pushes (sheet (now (text .entry)) (now (ends .entry)) (now (kinds .entry)) pen) (operator relation ∷ number false 0 ∷ []) ⌝ }
+    ensures { λ _. ⌜ ((s : List ℕ) → Coded (now (tables .entry)) s (now (codes .entry)) (now (codes .exit)) (operator relation ∷ number false 0 ∷ [])) ⌝ }
 {
-    let p = push_word(text, ends, kinds, pen, words, EQUAL + relation);
-    push_num(text, ends, kinds, p, false, 0)
+    code_word(codes, tables, EQUAL + relation);
+    code_num(codes, false, 0)
 }
 
 // The first operand, as unsigned where the rule reads unsigned.
-fn push_unsigned(
-    text: &mut [u8],
-    ends: &mut [u32],
-    kinds: &mut [u8],
-    pen: Pen,
-    words: &[u8],
-    isa: &[u8],
-    rec: &[u8],
-    h: Header,
-    body: &[u8],
-    cc: u8,
-) -> Pen
-    requires { ⌜ Tables (now words) (now isa) h (now rec) ⌝ }
-    ensures { λ r. ⌜ sheet (now (text .exit)) (now (ends .exit)) (now (kinds .exit)) r
-        ≡ pushes (sheet (now (text .entry)) (now (ends .entry)) (now (kinds .entry)) pen) (unsignedIf (printsUnsigned cc) (opTokens h (now (rec .entry)) (now (body .entry)) 0)) ⌝ }
+fn code_unsigned(codes: &mut [u64], tables: &[u8], rec: &[u8], h: Header, body: &[u8], cc: u8)
+    requires { ⌜ Lent (now codes) (now tables) h (now rec) ⌝ }
+    ensures { λ _. ⌜ Coded (now (tables .entry)) (now (rec .entry)) (now (codes .entry)) (now (codes .exit)) (unsignedIf (printsUnsigned cc) (opTokens h (now (rec .entry)) (now (body .entry)) 0)) ⌝ }
 {
-    if prints_unsigned(isa, cc) {
-        let p = push_word(text, ends, kinds, pen, words, UNSIGNED);
-        return op(text, ends, kinds, p, words, isa, rec, h, body, 0);
+    if prints_unsigned(isa_of(tables), cc) {
+        code_word(codes, tables, UNSIGNED);
+        return op(codes, tables, rec, h, body, 0);
     }
-    op(text, ends, kinds, pen, words, isa, rec, h, body, 0)
+    op(codes, tables, rec, h, body, 0)
 }
 
-fn after_cmp(
-    text: &mut [u8],
-    ends: &mut [u32],
-    kinds: &mut [u8],
-    pen: Pen,
-    words: &[u8],
-    isa: &[u8],
-    rec: &[u8],
-    h: Header,
-    body: &[u8],
-    cc: u8,
-) -> Pen
-    requires { ⌜ Tables (now words) (now isa) h (now rec) ⌝ }
-    ensures { λ r. ⌜ sheet (now (text .exit)) (now (ends .exit)) (now (kinds .exit)) r
-        ≡ pushes (sheet (now (text .entry)) (now (ends .entry)) (now (kinds .entry)) pen) (afterCmp h (now (rec .entry)) (now (body .entry)) cc) ⌝ }
+fn after_cmp(codes: &mut [u64], tables: &[u8], rec: &[u8], h: Header, body: &[u8], cc: u8)
+    requires { ⌜ Lent (now codes) (now tables) h (now rec) ⌝ }
+    ensures { λ _. ⌜ Coded (now (tables .entry)) (now (rec .entry)) (now (codes .entry)) (now (codes .exit)) (afterCmp h (now (rec .entry)) (now (body .entry)) cc) ⌝ }
 {
-    let r = relation_after_cmp(isa, cc);
+    let r = relation_after_cmp(isa_of(tables), cc);
     if r < 6 {
-        let a = push_unsigned(text, ends, kinds, pen, words, isa, rec, h, body, cc);
-        let o = push_word(text, ends, kinds, a, words, EQUAL + r);
-        return op(text, ends, kinds, o, words, isa, rec, h, body, 1);
+        code_unsigned(codes, tables, rec, h, body, cc);
+        code_word(codes, tables, EQUAL + r);
+        return op(codes, tables, rec, h, body, 1);
     }
-    push_flags(text, ends, kinds, pen, words, cc)
+    code_flags(codes, tables, cc)
 }
 
-fn after_other(
-    text: &mut [u8],
-    ends: &mut [u32],
-    kinds: &mut [u8],
-    pen: Pen,
-    words: &[u8],
-    isa: &[u8],
-    rec: &[u8],
-    h: Header,
-    body: &[u8],
-    cc: u8,
-) -> Pen
-    requires { ⌜ Tables (now words) (now isa) h (now rec) ⌝ }
-    ensures { λ r. ⌜ sheet (now (text .exit)) (now (ends .exit)) (now (kinds .exit)) r
-        ≡ pushes (sheet (now (text .entry)) (now (ends .entry)) (now (kinds .entry)) pen) (afterOther h (now (rec .entry)) (now (body .entry)) cc) ⌝ }
+fn after_other(codes: &mut [u64], tables: &[u8], rec: &[u8], h: Header, body: &[u8], cc: u8)
+    requires { ⌜ Lent (now codes) (now tables) h (now rec) ⌝ }
+    ensures { λ _. ⌜ Coded (now (tables .entry)) (now (rec .entry)) (now (codes .entry)) (now (codes .exit)) (afterOther h (now (rec .entry)) (now (body .entry)) cc) ⌝ }
 {
-    let r = relation_after_other(isa, cc);
+    let r = relation_after_other(isa_of(tables), cc);
     if r < 6 {
-        let a = op(text, ends, kinds, pen, words, isa, rec, h, body, 0);
-        return push_against(text, ends, kinds, a, words, r);
+        op(codes, tables, rec, h, body, 0);
+        return code_against(codes, tables, r);
     }
-    push_flags(text, ends, kinds, pen, words, cc)
+    code_flags(codes, tables, cc)
 }
 
 // Both operands of TEST, with `&` between.
-fn push_and(
-    text: &mut [u8],
-    ends: &mut [u32],
-    kinds: &mut [u8],
-    pen: Pen,
-    words: &[u8],
-    isa: &[u8],
-    rec: &[u8],
-    h: Header,
-    body: &[u8],
-) -> Pen
-    requires { ⌜ Tables (now words) (now isa) h (now rec) ⌝ }
-    ensures { λ r. ⌜ sheet (now (text .exit)) (now (ends .exit)) (now (kinds .exit)) r
-        ≡ pushes (sheet (now (text .entry)) (now (ends .entry)) (now (kinds .entry)) pen) (opTokens h (now (rec .entry)) (now (body .entry)) 0 ++ (punct " & " ∷ opTokens h (now (rec .entry)) (now (body .entry)) 1)) ⌝ }
+fn code_and(codes: &mut [u64], tables: &[u8], rec: &[u8], h: Header, body: &[u8])
+    requires { ⌜ Lent (now codes) (now tables) h (now rec) ⌝ }
+    ensures { λ _. ⌜ Coded (now (tables .entry)) (now (rec .entry)) (now (codes .entry)) (now (codes .exit)) (opTokens h (now (rec .entry)) (now (body .entry)) 0 ++ (punct " & " ∷ opTokens h (now (rec .entry)) (now (body .entry)) 1)) ⌝ }
 {
-    let a = op(text, ends, kinds, pen, words, isa, rec, h, body, 0);
-    let b = push_word(text, ends, kinds, a, words, AND);
-    op(text, ends, kinds, b, words, isa, rec, h, body, 1)
+    op(codes, tables, rec, h, body, 0);
+    code_word(codes, tables, AND);
+    op(codes, tables, rec, h, body, 1)
 }
 
 // The same in parentheses.
-fn push_both(
-    text: &mut [u8],
-    ends: &mut [u32],
-    kinds: &mut [u8],
-    pen: Pen,
-    words: &[u8],
-    isa: &[u8],
-    rec: &[u8],
-    h: Header,
-    body: &[u8],
-) -> Pen
-    requires { ⌜ Tables (now words) (now isa) h (now rec) ⌝ }
-    ensures { λ r. ⌜ sheet (now (text .exit)) (now (ends .exit)) (now (kinds .exit)) r
-        ≡ pushes (sheet (now (text .entry)) (now (ends .entry)) (now (kinds .entry)) pen) (wrapIf true (opTokens h (now (rec .entry)) (now (body .entry)) 0 ++ (punct " & " ∷ opTokens h (now (rec .entry)) (now (body .entry)) 1))) ⌝ }
+fn code_both(codes: &mut [u64], tables: &[u8], rec: &[u8], h: Header, body: &[u8])
+    requires { ⌜ Lent (now codes) (now tables) h (now rec) ⌝ }
+    ensures { λ _. ⌜ Coded (now (tables .entry)) (now (rec .entry)) (now (codes .entry)) (now (codes .exit)) (wrapIf true (opTokens h (now (rec .entry)) (now (body .entry)) 0 ++ (punct " & " ∷ opTokens h (now (rec .entry)) (now (body .entry)) 1))) ⌝ }
 {
-    let a = push_word(text, ends, kinds, pen, words, OPEN);
-    let b = push_and(text, ends, kinds, a, words, isa, rec, h, body);
-    push_word(text, ends, kinds, b, words, CLOSE)
+    code_word(codes, tables, OPEN);
+    code_and(codes, tables, rec, h, body);
+    code_word(codes, tables, CLOSE)
 }
 
 // What TEST compares with 0.
-fn push_tested(
-    text: &mut [u8],
-    ends: &mut [u32],
-    kinds: &mut [u8],
-    pen: Pen,
-    words: &[u8],
-    isa: &[u8],
-    rec: &[u8],
-    h: Header,
-    body: &[u8],
-) -> Pen
-    requires { ⌜ Tables (now words) (now isa) h (now rec) ⌝ }
-    ensures { λ r. ⌜ sheet (now (text .exit)) (now (ends .exit)) (now (kinds .exit)) r
-        ≡ pushes (sheet (now (text .entry)) (now (ends .entry)) (now (kinds .entry)) pen) (tested h (now (rec .entry)) (now (body .entry))) ⌝ }
+fn code_tested(codes: &mut [u64], tables: &[u8], rec: &[u8], h: Header, body: &[u8])
+    requires { ⌜ Lent (now codes) (now tables) h (now rec) ⌝ }
+    ensures { λ _. ⌜ Coded (now (tables .entry)) (now (rec .entry)) (now (codes .entry)) (now (codes .exit)) (tested h (now (rec .entry)) (now (body .entry))) ⌝ }
 {
-    if alike(words, isa, rec, h, body) {
-        return op(text, ends, kinds, pen, words, isa, rec, h, body, 0);
+    if alike(tables, rec, h, body) {
+        return op(codes, tables, rec, h, body, 0);
     }
-    push_both(text, ends, kinds, pen, words, isa, rec, h, body)
+    code_both(codes, tables, rec, h, body)
 }
 
-fn after_test(
-    text: &mut [u8],
-    ends: &mut [u32],
-    kinds: &mut [u8],
-    pen: Pen,
-    words: &[u8],
-    isa: &[u8],
-    rec: &[u8],
-    h: Header,
-    body: &[u8],
-    cc: u8,
-) -> Pen
-    requires { ⌜ Tables (now words) (now isa) h (now rec) ⌝ }
-    ensures { λ r. ⌜ sheet (now (text .exit)) (now (ends .exit)) (now (kinds .exit)) r
-        ≡ pushes (sheet (now (text .entry)) (now (ends .entry)) (now (kinds .entry)) pen) (afterTest h (now (rec .entry)) (now (body .entry)) cc) ⌝ }
+fn after_test(codes: &mut [u64], tables: &[u8], rec: &[u8], h: Header, body: &[u8], cc: u8)
+    requires { ⌜ Lent (now codes) (now tables) h (now rec) ⌝ }
+    ensures { λ _. ⌜ Coded (now (tables .entry)) (now (rec .entry)) (now (codes .entry)) (now (codes .exit)) (afterTest h (now (rec .entry)) (now (body .entry)) cc) ⌝ }
 {
-    let r = relation_after_test(isa, cc);
+    let r = relation_after_test(isa_of(tables), cc);
     if r < 6 {
-        let a = push_tested(text, ends, kinds, pen, words, isa, rec, h, body);
-        return push_against(text, ends, kinds, a, words, r);
+        code_tested(codes, tables, rec, h, body);
+        return code_against(codes, tables, r);
     }
-    push_flags(text, ends, kinds, pen, words, cc)
+    code_flags(codes, tables, cc)
 }
 
 // A condition after the flag writer with this body.
-fn after_writer(
-    text: &mut [u8],
-    ends: &mut [u32],
-    kinds: &mut [u8],
-    pen: Pen,
-    words: &[u8],
-    isa: &[u8],
-    rec: &[u8],
-    h: Header,
-    body: &[u8],
-    cc: u8,
-) -> Pen
-    requires { ⌜ Tables (now words) (now isa) h (now rec) ⌝ }
-    ensures { λ r. ⌜ sheet (now (text .exit)) (now (ends .exit)) (now (kinds .exit)) r
-        ≡ pushes (sheet (now (text .entry)) (now (ends .entry)) (now (kinds .entry)) pen) (afterWriter h (now (rec .entry)) (now (body .entry)) cc) ⌝ }
+fn after_writer(codes: &mut [u64], tables: &[u8], rec: &[u8], h: Header, body: &[u8], cc: u8)
+    requires { ⌜ Lent (now codes) (now tables) h (now rec) ⌝ }
+    ensures { λ _. ⌜ Coded (now (tables .entry)) (now (rec .entry)) (now (codes .entry)) (now (codes .exit)) (afterWriter h (now (rec .entry)) (now (body .entry)) cc) ⌝ }
 {
     let m = mnemonic(body);
     if m == 38 {
-        return after_cmp(text, ends, kinds, pen, words, isa, rec, h, body, cc);
+        return after_cmp(codes, tables, rec, h, body, cc);
     }
     if m == 39 {
-        return after_test(text, ends, kinds, pen, words, isa, rec, h, body, cc);
+        return after_test(codes, tables, rec, h, body, cc);
     }
-    after_other(text, ends, kinds, pen, words, isa, rec, h, body, cc)
+    after_other(codes, tables, rec, h, body, cc)
 }
 
 // Condition cc tested by instruction i of the block whose first instruction is `first`.
 pub fn condition(
-    text: &mut [u8],
-    ends: &mut [u32],
-    kinds: &mut [u8],
-    pen: Pen,
-    words: &[u8],
-    isa: &[u8],
+    codes: &mut [u64],
+    tables: &[u8],
     rec: &[u8],
     h: Header,
     first: u16,
     i: u16,
     cc: u8,
-) -> Pen
-    requires { ⌜ Tables (now words) (now isa) h (now rec) ⌝ }
-    ensures { λ r. ⌜ sheet (now (text .exit)) (now (ends .exit)) (now (kinds .exit)) r
-        ≡ pushes (sheet (now (text .entry)) (now (ends .entry)) (now (kinds .entry)) pen) (conditionTokens h (now (rec .entry)) first i cc) ⌝ }
+)
+    requires { ⌜ Lent (now codes) (now tables) h (now rec) ⌝ }
+    ensures { λ _. ⌜ Coded (now (tables .entry)) (now (rec .entry)) (now (codes .entry)) (now (codes .exit)) (conditionTokens h (now (rec .entry)) first i cc) ⌝ }
 {
     let bodies = from(rec, bodies_at(h));
-    match flag_writer(isa, bodies, first, i) {
-        Found::At(p) => after_writer(
-            text,
-            ends,
-            kinds,
-            pen,
-            words,
-            isa,
-            rec,
-            h,
-            body_at(bodies, p),
-            cc,
-        ),
-        Found::Nothing => push_flags(text, ends, kinds, pen, words, cc),
+    match flag_writer(isa_of(tables), bodies, first, i) {
+        Found::At(p) => after_writer(codes, tables, rec, h, body_at(bodies, p), cc),
+        Found::Nothing => code_flags(codes, tables, cc),
     }
 }

@@ -74,18 +74,15 @@ module _ (h : Header) (s : List ℕ) (from to : ℕ) where
         limits-small h ok .instructions,
       ))
 
-  pub record-few : limitsOk h ≡ true → Counted h s → to ≤ h .blocks → length (recordPlan h s from to) ≤ 900
+  pub record-within : Counted h s → to ≤ h .blocks → length (recordPlan h s from to) ≤ h .instructions + 2 * h .blocks
   unfolding recordPlan
+  record-within t le =
+      omega (arith, record-demand3 .few, sum-grows (λ m. countIn (blockRows h s) (from + m)) (to - from) (h .blocks - from) (omega arith), many-all h s from t)
+
+  pub record-few : limitsOk h ≡ true → Counted h s → to ≤ h .blocks → length (recordPlan h s from to) ≤ 900
   record-few ok t le =
       let small = limits-small h ok in
-      omega (
-        arith,
-        record-demand3 .few,
-        sum-grows (λ m. countIn (blockRows h s) (from + m)) (to - from) (h .blocks - from) (omega arith),
-        many-all h s from t,
-        small .blocks,
-        small .instructions,
-      )
+      omega (arith, record-within t le, small .blocks, small .instructions)
 
   pub record-shallow : limitsOk h ≡ true → to ≤ h .blocks → Shallow 256 (recordPlan h s from to)
   unfolding recordPlan

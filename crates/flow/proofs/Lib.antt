@@ -5,3 +5,4 @@ pub mod Laws
 pub mod Terms
 pub mod Bounds
 pub mod Silenced
+pub mod Classes

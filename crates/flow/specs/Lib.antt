@@ -1,4 +1,5 @@
 pub mod Silent
+pub mod Classes
 pub mod Rows
 pub mod Counted
 pub mod Planned

@@ -10,13 +10,52 @@ use record::layout::targets_at;
 use structure::plan::plan;
 ghost use mathlib.Core.Path.{_≡_};
 ghost use mathlib.Core.Bool.{true};
+ghost use Prim.Native.Nat.{_*_, _≤_};
+ghost use lib.ListN.{length};
 ghost use Rattle.record.specs.Header.{limitsOk};
 ghost use Rattle.structure.specs.Stored.{Stored};
 ghost use Rattle.x86.specs.Table.{isaBytes};
 ghost use Rattle.flow.specs.Rows.{blockRows};
 ghost use Rattle.flow.specs.Planned.{recordCodes};
 
-// The lines' codes from the start of the list on; answers how many there are, stored or not. The blocks' rows are lent.
+// The lines' codes from the start of the list on, with the rows of edges in a list that has room for them.
+fn plan_edges(
+    isa: &[u8],
+    rec: &[u8],
+    h: Header,
+    blocks: &[u16],
+    edges: &mut [u16],
+    from: u16,
+    to: u16,
+    out: &mut [u64],
+) -> usize
+    requires isa { ⌜ now isa ≡ isaBytes ⌝ }
+    requires limits { ⌜ limitsOk h ≡ true ⌝ }
+    requires rows { ⌜ now blocks ≡ blockRows h (now rec) ⌝ }
+    requires room { ⌜ 2 * h .edges ≤ length (now edges) ⌝ }
+    ensures { λ r. ⌜ Stored (now (out .entry)) 0 (recordCodes h (now (rec .entry)) from to) r (now (out .exit)) ⌝ }
+{
+    let mut shown = [0u8; 500];
+    edge_rows(rec, h, edges);
+    shown_rows(isa, rec, h, &mut shown);
+    let e = part_u16(edges, 2 * size(h.edges));
+    let s = part(&shown, 0, size(h.instructions));
+    plan(
+        blocks,
+        e,
+        s,
+        part_from(rec, 24),
+        part_from(rec, targets_at(h)),
+        h.blocks,
+        from,
+        to,
+        h.indent,
+        out,
+    )
+}
+
+// The lines' codes from the start of the list on; answers how many there are, stored or not. The blocks' rows are lent. Few edges have a
+// short list.
 pub fn plan_record(
     isa: &[u8],
     rec: &[u8],
@@ -31,22 +70,10 @@ pub fn plan_record(
     requires rows { ⌜ now blocks ≡ blockRows h (now rec) ⌝ }
     ensures { λ r. ⌜ Stored (now (out .entry)) 0 (recordCodes h (now (rec .entry)) from to) r (now (out .exit)) ⌝ }
 {
+    if h.edges <= 128 {
+        let mut few = [0u16; 256];
+        return plan_edges(isa, rec, h, blocks, &mut few, from, to, out);
+    }
     let mut edges = [0u16; 1200];
-    let mut shown = [0u8; 500];
-    edge_rows(rec, h, &mut edges);
-    shown_rows(isa, rec, h, &mut shown);
-    let e = part_u16(&edges, 2 * size(h.edges));
-    let s = part(&shown, 0, size(h.instructions));
-    plan(
-        blocks,
-        e,
-        s,
-        part_from(rec, 24),
-        part_from(rec, targets_at(h)),
-        h.blocks,
-        from,
-        to,
-        h.indent,
-        out,
-    )
+    plan_edges(isa, rec, h, blocks, &mut edges, from, to, out)
 }

@@ -1,6 +1,8 @@
 // The rows of a record: eight numbers a block, two an edge, one an instruction, stored in lent lists.
+use crate::silent::class_table;
 use crate::silent::ending_of;
 use crate::silent::is_silent_itself;
+use crate::silent::silent_class;
 use lists::reads::from;
 use lists::stores::store;
 use lists::stores::store_u16;
@@ -10,12 +12,12 @@ use record::blocks::edge_kind_at;
 use record::blocks::edges_in;
 use record::blocks::instructions_in;
 use record::blocks::label_mark;
-use record::blocks::same_address;
-use record::blocks::start_at;
 use record::blocks::starts_rise;
 use record::blocks::target_at;
 use record::body::body_at;
+use record::body::mnemonic;
 use record::body::op_number;
+use record::body::skip_mark;
 use record::header::Header;
 use record::layout::bodies_at;
 use record::layout::edge_kinds_at;
@@ -23,6 +25,7 @@ use record::layout::marks_at;
 use record::layout::size;
 use record::layout::targets_at;
 use record::search::Found;
+use record::search::first_of;
 use record::search::search;
 ghost use mathlib.Core.Path.{_≡_};
 ghost use mathlib.Core.List.{[], _∷_};
@@ -33,9 +36,9 @@ ghost use Rattle.lists.specs.Put.{put};
 ghost use Rattle.record.specs.Blocks.{startsRise};
 ghost use Rattle.record.specs.Body.{operandNumber};
 ghost use Rattle.record.specs.Layout.{startsOf};
-ghost use Rattle.record.specs.Search.{findFrom};
 ghost use Rattle.x86.specs.Table.{isaBytes};
 ghost use Rattle.flow.specs.Silent.{isSilentItself, endingOf};
+ghost use Rattle.flow.specs.Classes.{classTable};
 ghost use Rattle.flow.specs.Rows.{placeFound, placeOf, blockRows, edgeRows, shownRows};
 ghost use Rattle.flow.specs.Counted.{Counted, BlockHas, rowEnding};
 
@@ -49,20 +52,6 @@ fn place_found(found: Found) -> Place
     }
 }
 
-// Of the blocks that start at an address the first, one after the other.
-fn place_in(starts: &[u8], blocks: u16, va: Address) -> Place
-    ensures { λ r. ⌜ r .0 ≡ placeFound (findFrom (now (starts .entry)) (va .0) 0 blocks) ⌝ }
-{
-    let mut place: u16 = 0;
-    while place < blocks {
-        if same_address(start_at(starts, Place(place)), va) {
-            return Place(place);
-        }
-        place += 1;
-    }
-    Place(65535)
-}
-
 // Whether a record's block starts rise: asked once for all its places.
 fn rises_in(rec: &[u8], h: Header) -> bool
     ensures { λ r. ⌜ r ≡ startsRise (startsOf h (now (rec .entry))) (h .blocks) ⌝ }
@@ -70,7 +59,7 @@ fn rises_in(rec: &[u8], h: Header) -> bool
     starts_rise(from(rec, 24), h.blocks)
 }
 
-// The place of the block that starts at an address; `rises` tells whether it can be found by halving.
+// The place of the first block that starts at an address; `rises` tells whether it can be found by halving.
 pub fn place_of(rec: &[u8], h: Header, rises: bool, va: Address) -> Place
     requires { ⌜ rises ≡ startsRise (startsOf h (now rec)) (h .blocks) ⌝ }
     ensures { λ r. ⌜ r .0 ≡ placeOf h (now (rec .entry)) (va .0) ⌝ }
@@ -79,7 +68,7 @@ pub fn place_of(rec: &[u8], h: Header, rises: bool, va: Address) -> Place
     if rises {
         return place_found(search(starts, h.blocks, va.0));
     }
-    place_in(starts, h.blocks, va)
+    place_found(first_of(starts, h.blocks, va.0))
 }
 
 fn put_two(out: &mut [u16], at: usize, a: u16, b: u16)
@@ -184,11 +173,21 @@ pub fn edge_rows(rec: &[u8], h: Header, out: &mut [u16])
     }
 }
 
-// 1 for an instruction that is not silent by itself.
-fn shown_of(isa: &[u8], frame: u16, body: &[u8]) -> u8
-    requires { ⌜ now isa ≡ isaBytes ⌝ }
+// 1 for an instruction that is not silent by itself: most are told by their mnemonic.
+fn shown_of(isa: &[u8], classes: &[u8], frame: u16, body: &[u8]) -> u8
+    requires { ⌜ (now isa ≡ isaBytes) × (now classes ≡ classTable) ⌝ }
     ensures { λ r. ⌜ r ≡ pick (isSilentItself frame (now (body .entry))) 0 1 ⌝ }
 {
+    if skip_mark(body) == 1 {
+        return 0;
+    }
+    let class = silent_class(classes, mnemonic(body));
+    if class == 0 {
+        return 1;
+    }
+    if class == 1 {
+        return 0;
+    }
     if is_silent_itself(isa, frame, body) {
         return 0;
     }
@@ -199,10 +198,16 @@ pub fn shown_rows(isa: &[u8], rec: &[u8], h: Header, out: &mut [u8])
     requires { ⌜ now isa ≡ isaBytes ⌝ }
     ensures { λ _. ⌜ now (out .exit) ≡ put 0 (shownRows h (now (rec .entry))) (now (out .entry)) ⌝ }
 {
+    let table = class_table();
+    let classes: &[u8] = &table;
     let bodies = from(rec, bodies_at(h));
     let mut i: u16 = 0;
     while i < h.instructions {
-        store(out, size(i), shown_of(isa, h.frame, body_at(bodies, i)));
+        store(
+            out,
+            size(i),
+            shown_of(isa, classes, h.frame, body_at(bodies, i)),
+        );
         i += 1;
     }
 }

@@ -1,4 +1,5 @@
 // Which instructions are silent by themselves, and how a block ends: over the part of the record that begins at a body.
+use lists::reads::plain_u8;
 use record::body::condition_code;
 use record::body::mnemonic;
 use record::body::op_kind;
@@ -11,6 +12,7 @@ ghost use mathlib.Core.Bool.{_||_};
 ghost use lib.Dec.{eqb};
 ghost use Prim.Native.Nat.{_≤_};
 ghost use Rattle.x86.specs.Table.{isaBytes};
+ghost use Rattle.flow.specs.Classes.{silentClass, classTable};
 ghost use Rattle.flow.specs.Silent.{folded, padding, registerFirst, movesFrame, isPrologueNoise, isDirectJmp, isSkipped, isSilentItself, endingOf};
 
 fn either(m: u8, a: u8, b: u8) -> bool
@@ -92,6 +94,40 @@ pub fn is_silent_itself(isa: &[u8], frame: u16, body: &[u8]) -> bool
     ensures { λ r. ⌜ r ≡ isSilentItself frame (now (body .entry)) ⌝ }
 {
     is_skipped(isa, frame, body) | is_folded(mnemonic(body)) | is_direct_jmp(body)
+}
+
+// By mnemonic: 1 silent whatever its operands are, 2 where these decide, 0 shown unless marked.
+pub type ClassTable = [u8; 256];
+
+const CLASSES: ClassTable = *b"\
+    \0\x02\0\0\0\x02\0\0\0\x02\x02\0\0\0\0\0\
+    \0\0\0\0\0\x01\x02\0\0\x02\0\0\0\0\0\0\
+    \x01\x01\x01\x01\0\0\x01\x01\0\x01\x01\x01\x01\x01\0\0\
+    \0\0\0\0\0\0\0\0\0\0\0\0\0\0\0\0\
+    \0\0\0\0\0\0\0\0\0\0\0\0\0\0\0\0\
+    \0\0\0\0\0\0\0\0\0\0\0\0\0\0\0\0\
+    \0\0\0\0\0\0\0\0\0\0\0\0\0\0\0\0\
+    \0\0\0\0\0\0\0\0\0\0\0\0\0\0\0\0\
+    \0\0\0\0\0\0\0\0\0\0\0\0\0\0\0\0\
+    \0\0\0\0\0\0\0\0\0\0\0\0\0\0\0\0\
+    \0\0\0\0\0\0\0\0\0\0\0\0\0\0\0\0\
+    \0\0\0\0\0\0\0\0\0\0\0\0\0\0\0\0\
+    \0\0\0\0\0\0\0\0\0\0\0\0\0\0\0\0\
+    \0\0\0\0\0\0\0\0\0\0\0\0\0\0\0\0\
+    \0\0\0\0\0\0\0\0\0\0\0\0\0\0\0\0\
+    \0\0\0\0\0\0\0\0\0\0\0\0\0\0\0\0";
+
+pub fn class_table() -> ClassTable
+    ensures { λ t. ⌜ t ≡ classTable ⌝ }
+{
+    CLASSES
+}
+
+pub fn silent_class(classes: &[u8], m: u8) -> u8
+    requires { ⌜ now classes ≡ classTable ⌝ }
+    ensures { λ r. ⌜ r ≡ silentClass m ⌝ }
+{
+    plain_u8(classes, m as usize)
 }
 
 // How a block with this last instruction ends: 1 with a condition, 2 with a condition and a near branch, 3 with a direct jmp.

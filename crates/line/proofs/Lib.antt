@@ -1,5 +1,9 @@
 pub mod RowTable
+pub mod PlainForms
+pub mod Assembled
+pub mod CodedTurns
 pub mod Names
-pub mod Pieces
+pub mod PieceTokens
 pub mod Turns
 pub mod LinesShown
+pub mod Longest

@@ -27,18 +27,19 @@ use Rattle.expressions.specs.Arguments.{argumentTokens}
 use Rattle.expressions.specs.ArgumentLaw.{sinceCall, UpToLast}
 use Rattle.expressions.proofs.Shows.{shows, shows-turned}
 use Rattle.expressions.proofs.ArgumentLaw.{behind, up-to-last-written}
-use Rattle.line.specs.declared.print.Site.{Site}
-use Rattle.line.specs.Forms.{Piece, p, rows, rowOf, formOf, insnForm, plainForm, callForm, jumpForm, returnsValue}
+use Rattle.line.specs.declared.pieces.Site.{Site}
+use Rattle.line.specs.Forms.{Piece, Form, p, rowOf, formOf, insnForm, plainForm, callForm, jumpForm, returnsValue}
 use Rattle.line.specs.Forms.Piece.{arguments}
+use Rattle.line.specs.Forms.Form.{set-condition, move-if, call-target, call-memory, call-through, tail-call-target}
 use Rattle.line.specs.Print.{pieceTokens, piecesTokens, siteOf, lineTokens, maskAfter, printed}
 use Rattle.line.specs.Shown.{EachLine, ConditionShown, ConditionsShown, endsInCall, shownAs, shown, ArgumentsShown, CallsShown}
 
 -- the forms of setcc and cmovcc, of a call and of a jmp
-form-setcc : (v : Bool) (b : List ℕ) → mnemonicOf b ≡ mnemonic.setcc → insnForm v b ≡ 31
+form-setcc : (v : Bool) (b : List ℕ) → mnemonicOf b ≡ mnemonic.setcc → insnForm v b ≡ set-condition
 unfolding insnForm plainForm
 form-setcc v b e = rw e
 
-form-cmovcc : (v : Bool) (b : List ℕ) → mnemonicOf b ≡ mnemonic.cmovcc → insnForm v b ≡ 32
+form-cmovcc : (v : Bool) (b : List ℕ) → mnemonicOf b ≡ mnemonic.cmovcc → insnForm v b ≡ move-if
 unfolding insnForm plainForm
 form-cmovcc v b e = rw e
 
@@ -52,14 +53,14 @@ form-jmp v b e = rw e
 
 module _ (h : Header) (s : List ℕ) (c : Site) where
   -- the tokens of a form's row
-  abbrev row : ℕ → List Token
+  abbrev row : Form → List Token
   row form = join (piecesTokens h s c (rowOf form))
 
   own : List Token
   own = conditionTokens h s (c .first) (c .at) (conditionOf (bodyOf h s (c .at)))
 
   condition-shown : (w : What) → ConditionShown h s w (c .first) (c .at) (row (formOf h s w (c .first) (c .at)))
-  unfolding own rowOf rows piecesTokens pieceTokens
+  unfolding own rowOf piecesTokens pieceTokens
   condition-shown open-line = record {
     condition = conditionTokens h s (c .first) (c .at) (negate (conditionOf (bodyOf h s (c .at))));
     tokens = refl;
@@ -86,27 +87,27 @@ abbrev called : List Piece
 called = p "(" ∷ arguments ∷ p ");" ∷ []
 
 -- the pieces in front of it
-abbrev front : ℕ → List Piece
+abbrev front : Form → List Piece
 front form = take (length (rowOf form) - 3) (rowOf form)
 
-abbrev CallRow : ℕ → Type 0
+abbrev CallRow : Form → Type 0
 CallRow form = rowOf form ≡ front form ++ called
 
-tail-row : CallRow 47
-unfolding rowOf rows
+tail-row : CallRow tail-call-target
+unfolding rowOf
 tail-row = refl
 
 call-row : (b : List ℕ) → CallRow (callForm b)
-unfolding rowOf rows callForm
+unfolding rowOf callForm
 call-row b = go (eqb (operandKind b 0) 2) (eqb (operandKind b 0) 1 && (isIp (baseOf b) || eqb (baseOf b) 0))
   where
-    go : (x y : Bool) → CallRow (pick x 24 (pick y 25 26))
+    go : (x y : Bool) → CallRow (pick x call-target (pick y call-memory call-through))
     go true y = refl
     go false true = refl
     go false false = refl
 
 jmp-row : (b : List ℕ) → operandKind b 0 ≡ 1 → CallRow (jumpForm b)
-unfolding rowOf rows jumpForm
+unfolding rowOf jumpForm
 jmp-row b e = rw e
 
 insn-row : (v : Bool) (b : List ℕ) → (eqb (mnemonicOf b) mnemonic.call || (eqb (mnemonicOf b) mnemonic.jmp && eqb (operandKind b 0) 1)) ≡ true → CallRow (insnForm v b)

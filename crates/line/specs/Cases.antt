@@ -16,11 +16,12 @@ use Rattle.text.specs.Number.{digit, hexOf, hexText, sign, sizeText, numText}
 use Rattle.text.specs.NumberLaws.{hex-one, hex-more}
 use Rattle.text.specs.Literal.{escape, escapes, opening, closing, literalText}
 use Rattle.tokens.specs.Token.{Token, token, punct, plainText, keyword, register, symbol}
-use Rattle.tokens.specs.Words.{words, wordToken, prefixed}
+use Rattle.tokens.specs.Words.{prefixed}
 use Rattle.tokens.specs.Listing.{run, join}
 use Rattle.x86.specs.Registers.{registerNames, registerName, registerExists}
 use Rattle.x86.specs.Mnemonics.{mov, lea, add, dec, cmp, mnemonicNames, mnemonicName, writesFlags}
 use Rattle.x86.specs.Conditions.{conditionNames, conditionName, operatorText, relationAfterCmp, relationAfterOther, printsUnsigned}
+use Rattle.x86.specs.Sizes.{sizeTypes, sizeType}
 use Rattle.record.specs.Header.{headerOf}
 use Rattle.record.specs.Asked.{firstNo, sizesNo, blocksNo, contentsNo, rangeNo, marksAsked, startsAsked, edgeKindsAsked, bodiesAsked, atlasAsked, spansAsked}
 use Rattle.record.specs.Blocks.{firstInstruction, firstEdge, marksOk, startsDiffer, startIsNew, edgeKindsOk}
@@ -28,7 +29,7 @@ use Rattle.record.specs.Body.{bodiesOk, bodyOk, fixedOk, operandsOk, operandOk,
 use Rattle.record.specs.Atlas.{textStart, atlasOk, entriesOk, textsOk, textOk, spansOk}
 use Rattle.record.specs.Search.{findFrom, lastFrom}
 use Rattle.operand.specs.Names.{entryAt, entryToken, nameOr, inSpan}
-use Rattle.operand.specs.Memory.{slotBase, slotNumber, isSlot, slotToken, displacement, addressExpr, memExpr, memTokens}
+use Rattle.operand.specs.Memory.{slotBase, slotNumber, isSlot, slotToken, displacement, typeWord, addressExpr, memExpr, memTokens}
 use Rattle.operand.specs.Operand.{signedRead, immediateNumber, immediate, opTokens}
 use Rattle.expressions.specs.Condition.{flagWriter, afterWriter, conditionTokens}
 use Rattle.cfg.specs.Graph.{closesLoop, hasEdge, endingIn}
@@ -38,7 +39,7 @@ use Rattle.structure.specs.Plan.{rangeLines, treeLines, plainLines, shownLines,
 use Rattle.flow.specs.Silent.{isSilentItself, isPrologueNoise, endingOf}
 use Rattle.flow.specs.Rows.{rowsFrom, blockRow, edgeRow, shownRow, blockEnding, blockBranch, placeOf, blockRows, edgeRows, shownRows}
 use Rattle.flow.specs.Planned.{recordPlan}
-use Rattle.line.specs.Forms.{rows, rowOf, insnForm, plainForm}
+use Rattle.line.specs.Forms.{rowOf, insnForm, plainForm}
 use Rattle.line.specs.Print.{pieceTokens, piecesTokens, lineTokens, printed}
 
 pub record Case : Type 0 where
@@ -241,7 +242,7 @@ hex l (suc k) v h =
     ]
 
 pub all-print : map answered cases ≡ map (λ (c : Case). (0, c .expected)) cases
-unfolding cases flatten flatMap headerOf firstNo sizesNo blocksNo contentsNo rangeNo marksAsked startsAsked edgeKindsAsked bodiesAsked atlasAsked spansAsked marksOk startsDiffer startIsNew edgeKindsOk bodiesOk bodyOk fixedOk operandsOk operandOk isName isZeros registerExists atlasOk entriesOk textsOk textOk spansOk join run printed lineTokens piecesTokens rowOf rows insnForm plainForm recordPlan blockRows edgeRows edgeRow shownRows shownRow rowsFrom blockRow firstInstruction firstEdge blockEnding blockBranch endingOf placeOf findFrom isSilentItself isPrologueNoise rangeLines treeLines treeOf treeGo shapeAt lastLoop lastFrom closesLoop hasEdge endingIn regionAt opensRegion plainLines shownLines bodyCount closingLines relationAfterOther pieceTokens opTokens immediate immediateNumber signedRead memTokens memExpr addressExpr displacement slotToken isSlot slotNumber slotBase nameOr entryAt entryToken textStart inSpan prefixed wordToken words numText sign sizeText hexOf digit registerName registerNames literalText opening closing escapes escape conditionTokens flagWriter afterWriter writesFlags mnemonicName mnemonicNames conditionName conditionNames operatorText relationAfterCmp printsUnsigned
+unfolding cases flatten flatMap headerOf firstNo sizesNo blocksNo contentsNo rangeNo marksAsked startsAsked edgeKindsAsked bodiesAsked atlasAsked spansAsked marksOk startsDiffer startIsNew edgeKindsOk bodiesOk bodyOk fixedOk operandsOk operandOk isName isZeros registerExists atlasOk entriesOk textsOk textOk spansOk join run printed lineTokens piecesTokens rowOf insnForm plainForm recordPlan blockRows edgeRows edgeRow shownRows shownRow rowsFrom blockRow firstInstruction firstEdge blockEnding blockBranch endingOf placeOf findFrom isSilentItself isPrologueNoise rangeLines treeLines treeOf treeGo shapeAt lastLoop lastFrom closesLoop hasEdge endingIn regionAt opensRegion plainLines shownLines bodyCount closingLines relationAfterOther pieceTokens opTokens immediate immediateNumber signedRead memTokens memExpr addressExpr displacement typeWord sizeType sizeTypes slotToken isSlot slotNumber slotBase nameOr entryAt entryToken textStart inSpan prefixed numText sign sizeText hexOf digit registerName registerNames literalText opening closing escapes escape conditionTokens flagWriter afterWriter writesFlags mnemonicName mnemonicNames conditionName conditionNames operatorText relationAfterCmp printsUnsigned
 all-print =
     rw (
       hex false 0 10 (omega arith),

@@ -1,13 +1,13 @@
--- The rows of pieces as the code's table has them: a fixed word by its number, other pieces by numbers from 128 on.
+-- The forms and their pieces as the code has them: a form by its number, a fixed word by its number, other pieces by numbers from 128 on.
 use Prim.Native.Nat.{ℕ, _-_}
-use mathlib.Core.List.{List, [], _∷_, _++_, map}
-use mathlib.Core.Path.{_≡_, refl}
+use mathlib.Core.List.{List, [], _∷_, _++_}
 use lib.Dec.{ltb}
 use lib.ListN.{getD, length, replicate}
 use Rattle.lists.specs.Choice.{pick}
-use Rattle.tokens.specs.Words.{wordToken, words}
-use Rattle.line.specs.Forms.{Piece, reg, loc, sub, rows}
+use Rattle.tokens.specs.Words.{wordToken}
+use Rattle.line.specs.Forms.{Piece, Form, reg, loc, sub}
 use Rattle.line.specs.Forms.Piece.{fixed, op, address, zeros, ones, condition, negated, arguments, start, accumulator, assembly}
+use Rattle.line.specs.Forms.Form.{assign, cast-u32, cast-u64, cast-i32, cast-i64, take-address, store-zero, store-ones, add-to, subtract, and-with, or-with, xor-with, shift-left, shift-right, rotate-left, rotate-right, increment, decrement, negation, complement, multiply-two, multiply-by, pop-value, call-target, call-memory, call-through, return-value, return-nothing, tail-call-memory, computed-jump, set-condition, move-if, compare-exchange, exchange-first, exchange-second, time-stamp, cpu-identify, fast-fail, assembly-line, label, open-do, open-if, goto-if, close-while, close, goto, tail-call-target}
 
 -- the pieces from 136 on
 abbrev pub specials : List Piece
@@ -17,6 +17,58 @@ specials = address ∷ zeros ∷ ones ∷ condition ∷ negated ∷ arguments �
 unfoldable pub pieceOf : ℕ → Piece
 pieceOf b = pick (ltb b 102) (fixed (wordToken b)) (pick (ltb b 136) (op (b - 128)) (getD specials (b - 136) zeros))
 
+-- the number of a form
+unfoldable pub formNumber : Form → ℕ
+formNumber assign = 0
+formNumber cast-u32 = 1
+formNumber cast-u64 = 2
+formNumber cast-i32 = 3
+formNumber cast-i64 = 4
+formNumber take-address = 5
+formNumber store-zero = 6
+formNumber store-ones = 7
+formNumber add-to = 8
+formNumber subtract = 9
+formNumber and-with = 10
+formNumber or-with = 11
+formNumber xor-with = 12
+formNumber shift-left = 13
+formNumber shift-right = 14
+formNumber rotate-left = 15
+formNumber rotate-right = 16
+formNumber increment = 17
+formNumber decrement = 18
+formNumber negation = 19
+formNumber complement = 20
+formNumber multiply-two = 21
+formNumber multiply-by = 22
+formNumber pop-value = 23
+formNumber call-target = 24
+formNumber call-memory = 25
+formNumber call-through = 26
+formNumber return-value = 27
+formNumber return-nothing = 28
+formNumber tail-call-memory = 29
+formNumber computed-jump = 30
+formNumber set-condition = 31
+formNumber move-if = 32
+formNumber compare-exchange = 33
+formNumber exchange-first = 34
+formNumber exchange-second = 35
+formNumber time-stamp = 36
+formNumber cpu-identify = 37
+formNumber fast-fail = 38
+formNumber assembly-line = 39
+formNumber label = 40
+formNumber open-do = 41
+formNumber open-if = 42
+formNumber goto-if = 43
+formNumber close-while = 44
+formNumber close = 45
+formNumber goto = 46
+formNumber tail-call-target = 47
+
+-- the pieces of each form, by their numbers
 unfoldable pub codes : List (List ℕ)
 codes =
     (128 ∷ 0 ∷ 129 ∷ 1 ∷ [])
@@ -68,11 +120,6 @@ codes =
     ∷ (44 ∷ 41 ∷ 142 ∷ 1 ∷ [])
     ∷ (45 ∷ 41 ∷ 143 ∷ 2 ∷ 141 ∷ 29 ∷ [])
     ∷ []
-
--- the numbers stand for the rows of pieces
-pub codes-are : map (map pieceOf) codes ≡ rows
-unfolding codes rows pieceOf wordToken words
-codes-are = refl
 
 unfoldable pub codesOf : ℕ → List ℕ
 codesOf form = getD codes form []

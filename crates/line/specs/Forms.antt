@@ -4,9 +4,8 @@ use Prim.Native.String.{String}
 use mathlib.Core.Bool.{Bool, _&&_, _||_}
 use mathlib.Core.List.{List, [], _∷_}
 use lib.Dec.{eqb, leb, ltb}
-use lib.ListN.{getD}
 use Rattle.lists.specs.Choice.{pick, anyBelow}
-use Rattle.tokens.specs.Token.{Token, punct, plainText, keyword, register}
+use Rattle.tokens.specs.Token.{Token, punct, plainText, keyword, register, symbol}
 use Rattle.x86.specs.Mnemonics as mnemonic
 use Rattle.x86.specs.Registers.{qword, fullRegister, registerSize}
 use Rattle.record.specs.declared.header.Header.{Header}
@@ -18,7 +17,7 @@ use Rattle.structure.specs.Plan.What.{label-line, do-line, open-line, if-goto, 
 use Rattle.expressions.specs.Condition.{bodyOf}
 
 -- a piece of a line: a fixed token; operand k; the memory operand as an address; the number 0 or -1; the condition, or the one that
--- it turns into; a call's arguments; the name of the branch's target with a word as prefix; the block's label; rax or eax; the
+-- it turns into; a call's arguments; the name of the branch's target, or a prefix and its address; the block's label; rax or eax; the
 -- operands and name of `__asm`
 pub data Piece : Type 0 where
   fixed : Token → Piece
@@ -29,7 +28,7 @@ pub data Piece : Type 0 where
   condition : Piece
   negated : Piece
   arguments : Piece
-  target : ℕ → Piece
+  target : Token → Piece
   start : Piece
   accumulator : Piece
   assembly : Piece
@@ -46,74 +45,83 @@ reg t = fixed (register t)
 abbrev pub sp : Piece
 sp = fixed (plainText " ")
 
--- the words that stand before an address as a name: loc_ is word 94, sub_ 95
+-- the prefix of a place in the routine, and that of a routine
 abbrev pub loc : Piece
-loc = target 94
+loc = target (symbol "loc_")
 
 abbrev pub sub : Piece
-sub = target 95
+sub = target (symbol "sub_")
 
-unfoldable pub rows : List (List Piece)
-rows =
-    (op 0 ∷ p " = " ∷ op 1 ∷ p ";" ∷ [])
-    ∷ (op 0 ∷ p " = " ∷ kw "(uint32_t)" ∷ op 1 ∷ p ";" ∷ [])
-    ∷ (op 0 ∷ p " = " ∷ kw "(uint64_t)" ∷ op 1 ∷ p ";" ∷ [])
-    ∷ (op 0 ∷ p " = " ∷ kw "(int32_t)" ∷ op 1 ∷ p ";" ∷ [])
-    ∷ (op 0 ∷ p " = " ∷ kw "(int64_t)" ∷ op 1 ∷ p ";" ∷ [])
-    ∷ (op 0 ∷ p " = " ∷ address ∷ p ";" ∷ [])
-    ∷ (op 0 ∷ p " = " ∷ zeros ∷ p ";" ∷ [])
-    ∷ (op 0 ∷ p " = " ∷ ones ∷ p ";" ∷ [])
-    ∷ (op 0 ∷ p " += " ∷ op 1 ∷ p ";" ∷ [])
-    ∷ (op 0 ∷ p " -= " ∷ op 1 ∷ p ";" ∷ [])
-    ∷ (op 0 ∷ p " &= " ∷ op 1 ∷ p ";" ∷ [])
-    ∷ (op 0 ∷ p " |= " ∷ op 1 ∷ p ";" ∷ [])
-    ∷ (op 0 ∷ p " ^= " ∷ op 1 ∷ p ";" ∷ [])
-    ∷ (op 0 ∷ p " <<= " ∷ op 1 ∷ p ";" ∷ [])
-    ∷ (op 0 ∷ p " >>= " ∷ op 1 ∷ p ";" ∷ [])
-    ∷ (op 0 ∷ p " = " ∷ kw "__ROL__" ∷ p "(" ∷ op 0 ∷ p ", " ∷ op 1 ∷ p ");" ∷ [])
-    ∷ (op 0 ∷ p " = " ∷ kw "__ROR__" ∷ p "(" ∷ op 0 ∷ p ", " ∷ op 1 ∷ p ");" ∷ [])
-    ∷ (op 0 ∷ p "++;" ∷ [])
-    ∷ (op 0 ∷ p "--;" ∷ [])
-    ∷ (op 0 ∷ p " = -" ∷ op 0 ∷ p ";" ∷ [])
-    ∷ (op 0 ∷ p " = ~" ∷ op 0 ∷ p ";" ∷ [])
-    ∷ (op 0 ∷ p " = " ∷ op 1 ∷ p " * " ∷ op 2 ∷ p ";" ∷ [])
-    ∷ (op 0 ∷ p " *= " ∷ op 1 ∷ p ";" ∷ [])
-    ∷ (op 0 ∷ p " = " ∷ kw "__pop" ∷ p "();" ∷ [])
-    ∷ (accumulator ∷ p " = " ∷ sub ∷ p "(" ∷ arguments ∷ p ");" ∷ [])
-    ∷ (accumulator ∷ p " = " ∷ op 0 ∷ p "(" ∷ arguments ∷ p ");" ∷ [])
-    ∷ (accumulator ∷ p " = " ∷ kw "((void (*)())" ∷ op 0 ∷ p ")" ∷ p "(" ∷ arguments ∷ p ");" ∷ [])
-    ∷ (kw "return" ∷ sp ∷ accumulator ∷ p ";" ∷ [])
-    ∷ (kw "return" ∷ p ";" ∷ [])
-    ∷ (kw "return" ∷ sp ∷ op 0 ∷ p "(" ∷ arguments ∷ p ");" ∷ [])
-    ∷ (kw "goto" ∷ p " *" ∷ op 0 ∷ p ";" ∷ [])
-    ∷ (op 0 ∷ p " = " ∷ condition ∷ p ";" ∷ [])
-    ∷ (kw "if" ∷ p " (" ∷ condition ∷ p ") " ∷ op 0 ∷ p " = " ∷ op 1 ∷ p ";" ∷ [])
-    ∷ (accumulator ∷ p " = " ∷ kw "_InterlockedCompareExchange" ∷ p "(&" ∷ op 0 ∷ p ", " ∷ op 1 ∷ p ", " ∷ accumulator ∷ p ");" ∷ [])
-    ∷ (op 1 ∷ p " = " ∷ kw "_InterlockedExchange" ∷ p "(&" ∷ op 0 ∷ p ", " ∷ op 1 ∷ p ");" ∷ [])
-    ∷ (op 0 ∷ p " = " ∷ kw "_InterlockedExchange" ∷ p "(&" ∷ op 1 ∷ p ", " ∷ op 0 ∷ p ");" ∷ [])
-    ∷ (reg "rax" ∷ p " = " ∷ kw "__rdtsc" ∷ p "();" ∷ [])
-    ∷ (kw "__cpuid" ∷ p "(" ∷ reg "eax" ∷ p ", " ∷ reg "ecx" ∷ p ");" ∷ [])
-    ∷ (kw "__fastfail" ∷ p "();" ∷ [])
-    ∷ (kw "__asm" ∷ p " { " ∷ assembly ∷ p " }" ∷ [])
-    ∷ (start ∷ p ":" ∷ [])
-    ∷ (kw "do" ∷ p " {" ∷ [])
-    ∷ (kw "if" ∷ p " (" ∷ negated ∷ p ") {" ∷ [])
-    ∷ (kw "if" ∷ p " (" ∷ condition ∷ p ") " ∷ kw "goto" ∷ sp ∷ loc ∷ p ";" ∷ [])
-    ∷ (p "} " ∷ kw "while" ∷ p " (" ∷ condition ∷ p ");" ∷ [])
-    ∷ (p "}" ∷ [])
-    ∷ (kw "goto" ∷ sp ∷ loc ∷ p ";" ∷ [])
-    ∷ (kw "return" ∷ sp ∷ sub ∷ p "(" ∷ arguments ∷ p ");" ∷ [])
-    ∷ []
+-- the forms of lines: what a line does
+pub data Form : Type 0 where
+  assign cast-u32 cast-u64 cast-i32 cast-i64 : Form
+  take-address store-zero store-ones : Form
+  add-to subtract and-with or-with xor-with shift-left shift-right rotate-left rotate-right : Form
+  increment decrement negation complement multiply-two multiply-by : Form
+  pop-value call-target call-memory call-through : Form
+  return-value return-nothing : Form
+  tail-call-memory computed-jump : Form
+  set-condition move-if : Form
+  compare-exchange exchange-first exchange-second : Form
+  time-stamp cpu-identify fast-fail assembly-line : Form
+  label open-do open-if goto-if close-while close goto tail-call-target : Form
 
--- the row of pieces of a form
-unfoldable pub rowOf : ℕ → List Piece
-rowOf form = getD rows form []
+-- the pieces of a form, in their order
+unfoldable pub rowOf : Form → List Piece
+rowOf assign = op 0 ∷ p " = " ∷ op 1 ∷ p ";" ∷ []
+rowOf cast-u32 = op 0 ∷ p " = " ∷ kw "(uint32_t)" ∷ op 1 ∷ p ";" ∷ []
+rowOf cast-u64 = op 0 ∷ p " = " ∷ kw "(uint64_t)" ∷ op 1 ∷ p ";" ∷ []
+rowOf cast-i32 = op 0 ∷ p " = " ∷ kw "(int32_t)" ∷ op 1 ∷ p ";" ∷ []
+rowOf cast-i64 = op 0 ∷ p " = " ∷ kw "(int64_t)" ∷ op 1 ∷ p ";" ∷ []
+rowOf take-address = op 0 ∷ p " = " ∷ address ∷ p ";" ∷ []
+rowOf store-zero = op 0 ∷ p " = " ∷ zeros ∷ p ";" ∷ []
+rowOf store-ones = op 0 ∷ p " = " ∷ ones ∷ p ";" ∷ []
+rowOf add-to = op 0 ∷ p " += " ∷ op 1 ∷ p ";" ∷ []
+rowOf subtract = op 0 ∷ p " -= " ∷ op 1 ∷ p ";" ∷ []
+rowOf and-with = op 0 ∷ p " &= " ∷ op 1 ∷ p ";" ∷ []
+rowOf or-with = op 0 ∷ p " |= " ∷ op 1 ∷ p ";" ∷ []
+rowOf xor-with = op 0 ∷ p " ^= " ∷ op 1 ∷ p ";" ∷ []
+rowOf shift-left = op 0 ∷ p " <<= " ∷ op 1 ∷ p ";" ∷ []
+rowOf shift-right = op 0 ∷ p " >>= " ∷ op 1 ∷ p ";" ∷ []
+rowOf rotate-left = op 0 ∷ p " = " ∷ kw "__ROL__" ∷ p "(" ∷ op 0 ∷ p ", " ∷ op 1 ∷ p ");" ∷ []
+rowOf rotate-right = op 0 ∷ p " = " ∷ kw "__ROR__" ∷ p "(" ∷ op 0 ∷ p ", " ∷ op 1 ∷ p ");" ∷ []
+rowOf increment = op 0 ∷ p "++;" ∷ []
+rowOf decrement = op 0 ∷ p "--;" ∷ []
+rowOf negation = op 0 ∷ p " = -" ∷ op 0 ∷ p ";" ∷ []
+rowOf complement = op 0 ∷ p " = ~" ∷ op 0 ∷ p ";" ∷ []
+rowOf multiply-two = op 0 ∷ p " = " ∷ op 1 ∷ p " * " ∷ op 2 ∷ p ";" ∷ []
+rowOf multiply-by = op 0 ∷ p " *= " ∷ op 1 ∷ p ";" ∷ []
+rowOf pop-value = op 0 ∷ p " = " ∷ kw "__pop" ∷ p "();" ∷ []
+rowOf call-target = accumulator ∷ p " = " ∷ sub ∷ p "(" ∷ arguments ∷ p ");" ∷ []
+rowOf call-memory = accumulator ∷ p " = " ∷ op 0 ∷ p "(" ∷ arguments ∷ p ");" ∷ []
+rowOf call-through = accumulator ∷ p " = " ∷ kw "((void (*)())" ∷ op 0 ∷ p ")" ∷ p "(" ∷ arguments ∷ p ");" ∷ []
+rowOf return-value = kw "return" ∷ sp ∷ accumulator ∷ p ";" ∷ []
+rowOf return-nothing = kw "return" ∷ p ";" ∷ []
+rowOf tail-call-memory = kw "return" ∷ sp ∷ op 0 ∷ p "(" ∷ arguments ∷ p ");" ∷ []
+rowOf computed-jump = kw "goto" ∷ p " *" ∷ op 0 ∷ p ";" ∷ []
+rowOf set-condition = op 0 ∷ p " = " ∷ condition ∷ p ";" ∷ []
+rowOf move-if = kw "if" ∷ p " (" ∷ condition ∷ p ") " ∷ op 0 ∷ p " = " ∷ op 1 ∷ p ";" ∷ []
+rowOf compare-exchange = accumulator ∷ p " = " ∷ kw "_InterlockedCompareExchange" ∷ p "(&" ∷ op 0 ∷ p ", " ∷ op 1 ∷ p ", " ∷ accumulator ∷ p ");" ∷ []
+rowOf exchange-first = op 1 ∷ p " = " ∷ kw "_InterlockedExchange" ∷ p "(&" ∷ op 0 ∷ p ", " ∷ op 1 ∷ p ");" ∷ []
+rowOf exchange-second = op 0 ∷ p " = " ∷ kw "_InterlockedExchange" ∷ p "(&" ∷ op 1 ∷ p ", " ∷ op 0 ∷ p ");" ∷ []
+rowOf time-stamp = reg "rax" ∷ p " = " ∷ kw "__rdtsc" ∷ p "();" ∷ []
+rowOf cpu-identify = kw "__cpuid" ∷ p "(" ∷ reg "eax" ∷ p ", " ∷ reg "ecx" ∷ p ");" ∷ []
+rowOf fast-fail = kw "__fastfail" ∷ p "();" ∷ []
+rowOf assembly-line = kw "__asm" ∷ p " { " ∷ assembly ∷ p " }" ∷ []
+rowOf label = start ∷ p ":" ∷ []
+rowOf open-do = kw "do" ∷ p " {" ∷ []
+rowOf open-if = kw "if" ∷ p " (" ∷ negated ∷ p ") {" ∷ []
+rowOf goto-if = kw "if" ∷ p " (" ∷ condition ∷ p ") " ∷ kw "goto" ∷ sp ∷ loc ∷ p ";" ∷ []
+rowOf close-while = p "} " ∷ kw "while" ∷ p " (" ∷ condition ∷ p ");" ∷ []
+rowOf close = p "}" ∷ []
+rowOf goto = kw "goto" ∷ sp ∷ loc ∷ p ";" ∷ []
+rowOf tail-call-target = kw "return" ∷ sp ∷ sub ∷ p "(" ∷ arguments ∷ p ");" ∷ []
 
 -- which cast a movzx, or a movsx or movsxd, prints: by whether the first operand is 4 bytes wide
-unfoldable pub castForm : ℕ → List ℕ → ℕ
+unfoldable pub castForm : ℕ → List ℕ → Form
 castForm m b =
     let narrow = eqb (registerSize (operandRegister b 0)) 4 in
-    pick (eqb m mnemonic.movzx) (pick narrow 1 2) (pick narrow 3 4)
+    pick (eqb m mnemonic.movzx) (pick narrow cast-u32 cast-u64) (pick narrow cast-i32 cast-i64)
 
 -- `xor x, x` with two operands, both the same register
 abbrev pub isXorSelf : List ℕ → Bool
@@ -136,45 +144,73 @@ isOrOnes b =
     || (eqb (operandNumber b 1 % 4294967296) 4294967295 && eqb (operandKind b 0) 1 && eqb (memorySize b) 4))
 
 -- imul: exactly three operands, two or more, or `__asm`
-unfoldable pub imulForm : ℕ → ℕ
-imulForm count = pick (eqb count 3) 21 (pick (leb 2 count) 22 39)
+unfoldable pub imulForm : ℕ → Form
+imulForm count = pick (eqb count 3) multiply-two (pick (leb 2 count) multiply-by assembly-line)
 
 -- call: a near branch, memory by rip, eip or no base, or anything else
-unfoldable pub callForm : List ℕ → ℕ
+unfoldable pub callForm : List ℕ → Form
 callForm b =
-    pick (eqb (operandKind b 0) 2) 24
-    (pick (eqb (operandKind b 0) 1 && (isIp (baseOf b) || eqb (baseOf b) 0)) 25 26)
+    pick (eqb (operandKind b 0) 2) call-target
+    (pick (eqb (operandKind b 0) 1 && (isIp (baseOf b) || eqb (baseOf b) 0)) call-memory call-through)
 
 -- xchg with memory first, second, or not at all
-unfoldable pub xchgForm : List ℕ → ℕ
-xchgForm b = pick (eqb (operandKind b 0) 1) 34 (pick (eqb (operandKind b 1) 1) 35 39)
+unfoldable pub xchgForm : List ℕ → Form
+xchgForm b = pick (eqb (operandKind b 0) 1) exchange-first (pick (eqb (operandKind b 1) 1) exchange-second assembly-line)
 
--- the forms that the mnemonic alone decides, by mnemonic: mov; lea xor and or add sub shl shr sar rol ror inc dec neg not; pop;
--- setcc cmovcc cmpxchg; rdtsc cpuid; ud2 hlt; from cmp on `__asm`
-abbrev pub plainForms : List ℕ
-plainForms = 39 ∷ 0 ∷ 39 ∷ 39 ∷ 39 ∷ 5 ∷ 12 ∷ 10 ∷ 11 ∷ 8 ∷ 9 ∷ 13 ∷ 14 ∷ 14 ∷ 15 ∷ 16 ∷ 17 ∷ 18 ∷ 19 ∷ 20 ∷ 39 ∷ 39 ∷ 23
-    ∷ 39 ∷ 39 ∷ 39 ∷ 31 ∷ 32 ∷ 33 ∷ 39 ∷ 36 ∷ 37 ∷ 39 ∷ 39 ∷ 39 ∷ 39 ∷ 38 ∷ 38 ∷ []
+-- the forms that the mnemonic alone decides
+abbrev pub plainForms : List (ℕ × Form)
+plainForms =
+    (mnemonic.mov, assign)
+    ∷ (mnemonic.lea, take-address)
+    ∷ (mnemonic.xor, xor-with)
+    ∷ (mnemonic.and, and-with)
+    ∷ (mnemonic.or, or-with)
+    ∷ (mnemonic.add, add-to)
+    ∷ (mnemonic.sub, subtract)
+    ∷ (mnemonic.shl, shift-left)
+    ∷ (mnemonic.shr, shift-right)
+    ∷ (mnemonic.sar, shift-right)
+    ∷ (mnemonic.rol, rotate-left)
+    ∷ (mnemonic.ror, rotate-right)
+    ∷ (mnemonic.inc, increment)
+    ∷ (mnemonic.dec, decrement)
+    ∷ (mnemonic.neg, negation)
+    ∷ (mnemonic.not, complement)
+    ∷ (mnemonic.pop, pop-value)
+    ∷ (mnemonic.setcc, set-condition)
+    ∷ (mnemonic.cmovcc, move-if)
+    ∷ (mnemonic.cmpxchg, compare-exchange)
+    ∷ (mnemonic.rdtsc, time-stamp)
+    ∷ (mnemonic.cpuid, cpu-identify)
+    ∷ (mnemonic.ud2, fast-fail)
+    ∷ (mnemonic.hlt, fast-fail)
+    ∷ []
 
-unfoldable pub plainForm : ℕ → ℕ
-plainForm m = pick (ltb m mnemonic.cmp) (getD plainForms m 0) 39
+abbrev pub formIn : List (ℕ × Form) → ℕ → Form
+formIn [] m = assembly-line
+formIn (e ∷ es) m = pick (eqb m (e .0)) (e .1) (formIn es m)
+
+-- any other mnemonic prints `__asm`
+unfoldable pub plainForm : ℕ → Form
+plainForm m = formIn plainForms m
 
 -- xor, and, or, where the operands may make it the store of a constant
-unfoldable pub logicForm : ℕ → List ℕ → ℕ
+unfoldable pub logicForm : ℕ → List ℕ → Form
 logicForm m b =
-    pick (eqb m mnemonic.xor && isXorSelf b) 6
-    (pick (eqb m mnemonic.and && isAndZero b) 6
-    (pick (eqb m mnemonic.or && isOrOnes b) 7 (plainForm m)))
+    pick (eqb m mnemonic.xor && isXorSelf b) store-zero
+    (pick (eqb m mnemonic.and && isAndZero b) store-zero
+    (pick (eqb m mnemonic.or && isOrOnes b) store-ones (plainForm m)))
 
 -- ret, with a value or without
-unfoldable pub returnForm : Bool → ℕ
-returnForm value = pick value 27 28
+unfoldable pub returnForm : Bool → Form
+returnForm value = pick value return-value return-nothing
 
 -- an indirect jmp: through memory a tail call, else a computed jump
-unfoldable pub jumpForm : List ℕ → ℕ
-jumpForm b = pick (eqb (operandKind b 0) 1) 29 30
+unfoldable pub jumpForm : List ℕ → Form
+jumpForm b = pick (eqb (operandKind b 0) 1) tail-call-memory computed-jump
 
 -- the form of an instruction's line, by its mnemonic; `value` says whether a ret returns one
-unfoldable pub insnForm : Bool → List ℕ → ℕ
+unfoldable pub insnForm : Bool → List ℕ → Form
 insnForm value b =
     let m = mnemonicOf b in
     pick (leb mnemonic.movzx m && leb m mnemonic.movsxd) (castForm m b)
@@ -202,13 +238,13 @@ returnsValue bodies first i = anyBelow (valueBefore bodies first i) 6
 
 module _ (h : Header) (s : List ℕ) where
   -- the form of a line that is written for this, of instruction i of the block whose first instruction is `first`
-  abbrev pub formOf : What → ℕ → ℕ → ℕ
-  formOf label-line first i = 40
-  formOf do-line first i = 41
-  formOf open-line first i = 42
-  formOf if-goto first i = 43
-  formOf while-line first i = 44
-  formOf close-line first i = 45
-  formOf goto-line first i = 46
-  formOf tail-call first i = 47
+  abbrev pub formOf : What → ℕ → ℕ → Form
+  formOf label-line first i = label
+  formOf do-line first i = open-do
+  formOf open-line first i = open-if
+  formOf if-goto first i = goto-if
+  formOf while-line first i = close-while
+  formOf close-line first i = close
+  formOf goto-line first i = goto
+  formOf tail-call first i = tail-call-target
   formOf insn-line first i = insnForm (returnsValue (bodiesOf h s) first i) (bodyOf h s i)

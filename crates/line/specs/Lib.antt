@@ -1,7 +1,7 @@
 pub mod Forms
 pub mod Codes
+pub mod Fits
 pub mod Print
 pub mod Lines
-pub mod Bounds
 pub mod Shown
 pub mod Cases

@@ -6,8 +6,7 @@ use lib.Dec.{eqb}
 use lib.ListN.{take}
 use Rattle.lists.specs.Choice.{pick}
 use Rattle.lists.specs.Bytes.{u8At}
-use Rattle.tokens.specs.Token.{Token, token, plainText, register}
-use Rattle.tokens.specs.Sheet.{asText}
+use Rattle.tokens.specs.Token.{Token, token, plainText, register, symbol, asText}
 use Rattle.tokens.specs.Words.{prefixed}
 use Rattle.x86.specs.Mnemonics.{mnemonicName}
 use Rattle.x86.specs.Conditions.{negate}
@@ -24,7 +23,7 @@ use Rattle.structure.specs.Plan.What.{insn-line}
 use Rattle.flow.specs.Rows.{blockRows}
 use Rattle.expressions.specs.Condition.{bodyOf, conditionTokens}
 use Rattle.expressions.specs.Arguments.{argumentTokens, writtenAfter, commaIf}
-use Rattle.line.specs.declared.print.Site.{Site}
+use Rattle.line.specs.declared.pieces.Site.{Site}
 use Rattle.line.specs.Forms.{Piece, formOf, rowOf}
 use Rattle.line.specs.Forms.Piece.{fixed, op, address, zeros, ones, condition, negated, arguments, target, start, accumulator, assembly}
 
@@ -65,7 +64,7 @@ module _ (h : Header) (s : List ℕ) where
   pieceTokens c negated = conditionTokens h s (c .first) (c .at) (negate (conditionOf (bodyOf h s (c .at))))
   pieceTokens c arguments = argumentTokens h s (c .range) (c .at) (c .written)
   pieceTokens c (target w) = nameOr h s (operandNumber (bodyOf h s (c .at)) 0) w ∷ []
-  pieceTokens c start = prefixed 94 (startAt (startsOf h s) (c .place)) ∷ []
+  pieceTokens c start = prefixed (symbol "loc_") (startAt (startsOf h s) (c .place)) ∷ []
   pieceTokens c accumulator = accumulatorToken (h .bits) ∷ []
   pieceTokens c assembly = assemblyTokens (bodyOf h s (c .at))
 

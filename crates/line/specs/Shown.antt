@@ -6,7 +6,7 @@ use mathlib.Core.List.{List, [], _∷_, _++_}
 use Prim.Native.Nat.{ℕ}
 use lib.Dec.{eqb}
 use Rattle.lists.specs.Choice.{pick}
-use Rattle.tokens.specs.Token.{Token, punct, plainText, keyword}
+use Rattle.tokens.specs.Token.{Token, punct, plainText, keyword, symbol}
 use Rattle.tokens.specs.Listing.{join}
 use Rattle.x86.specs.Mnemonics as mnemonic
 use Rattle.record.specs.declared.header.Header.{Header}
@@ -59,7 +59,7 @@ module _ (h : Header) (s : List ℕ) where
 
   -- `goto` and the name of the branch's target
   abbrev pub goes : ℕ → List Token
-  goes i = keyword "goto" ∷ plainText " " ∷ nameOr h s (operandNumber (bodyOf h s i) 0) 94 ∷ punct ";" ∷ []
+  goes i = keyword "goto" ∷ plainText " " ∷ nameOr h s (operandNumber (bodyOf h s i) 0) (symbol "loc_") ∷ punct ";" ∷ []
 
   -- an if-region's opening line shows the opposite of its branch's condition, each other line that shows one its own
   abbrev pub ConditionShown : What → ℕ → ℕ → List Token → Type 0

@@ -12,11 +12,12 @@ use x86::registers::register_size;
 ghost use mathlib.Core.Path.{_≡_};
 ghost use Prim.Native.Nat.{_≤_};
 ghost use Rattle.x86.specs.Table.{isaBytes};
+ghost use Rattle.line.specs.Codes.{formNumber};
 ghost use Rattle.line.specs.Forms.{castForm, isXorSelf, isAndZero, isOrOnes, imulForm, callForm, xchgForm, plainForm, logicForm, returnForm, jumpForm, insnForm, leavesValue, valueBefore, returnsValue};
 
 fn cast_form(isa: &[u8], m: u8, body: &[u8]) -> u8
     requires { ⌜ now isa ≡ isaBytes ⌝ }
-    ensures { λ r. ⌜ r ≡ castForm m (now (body .entry)) ⌝ }
+    ensures { λ r. ⌜ r ≡ formNumber (castForm m (now (body .entry))) ⌝ }
 {
     let narrow = register_size(isa, op_register(body, 0)) == 4;
     if m == 2 {
@@ -53,7 +54,7 @@ fn is_or_ones(body: &[u8]) -> bool
 }
 
 fn imul_form(count: u8) -> u8
-    ensures { λ r. ⌜ r ≡ imulForm count ⌝ }
+    ensures { λ r. ⌜ r ≡ formNumber (imulForm count) ⌝ }
 {
     if count == 3 {
         return 21;
@@ -62,7 +63,7 @@ fn imul_form(count: u8) -> u8
 }
 
 fn call_form(body: &[u8]) -> u8
-    ensures { λ r. ⌜ r ≡ callForm (now (body .entry)) ⌝ }
+    ensures { λ r. ⌜ r ≡ formNumber (callForm (now (body .entry))) ⌝ }
 {
     let kind = op_kind(body, 0);
     let base = memory_base(body);
@@ -76,7 +77,7 @@ fn call_form(body: &[u8]) -> u8
 }
 
 fn xchg_form(body: &[u8]) -> u8
-    ensures { λ r. ⌜ r ≡ xchgForm (now (body .entry)) ⌝ }
+    ensures { λ r. ⌜ r ≡ formNumber (xchgForm (now (body .entry))) ⌝ }
 {
     if op_kind(body, 0) == 1 {
         return 34;
@@ -141,14 +142,14 @@ const PLAIN_FORMS: [u8; 38] = [
 ];
 
 fn plain_form(m: u8) -> u8
-    ensures { λ r. ⌜ r ≡ plainForm m ⌝ }
+    ensures { λ r. ⌜ r ≡ formNumber (plainForm m) ⌝ }
 {
     if m < 38 { PLAIN_FORMS[m as usize] } else { 39 }
 }
 
 // The forms of xor, and, or, where the operands decide.
 fn logic_form(m: u8, body: &[u8]) -> u8
-    ensures { λ r. ⌜ r ≡ logicForm m (now (body .entry)) ⌝ }
+    ensures { λ r. ⌜ r ≡ formNumber (logicForm m (now (body .entry))) ⌝ }
 {
     if (m == 6) & is_xor_self(body) {
         return 6;
@@ -163,13 +164,13 @@ fn logic_form(m: u8, body: &[u8]) -> u8
 }
 
 pub fn return_form(value: bool) -> u8
-    ensures { λ r. ⌜ r ≡ returnForm value ⌝ }
+    ensures { λ r. ⌜ r ≡ formNumber (returnForm value) ⌝ }
 {
     if value { 27 } else { 28 }
 }
 
 fn jump_form(body: &[u8]) -> u8
-    ensures { λ r. ⌜ r ≡ jumpForm (now (body .entry)) ⌝ }
+    ensures { λ r. ⌜ r ≡ formNumber (jumpForm (now (body .entry))) ⌝ }
 {
     if op_kind(body, 0) == 1 { 29 } else { 30 }
 }
@@ -177,7 +178,7 @@ fn jump_form(body: &[u8]) -> u8
 // The form of an instruction's own line.
 pub fn insn_form(isa: &[u8], value: bool, body: &[u8]) -> u8
     requires { ⌜ now isa ≡ isaBytes ⌝ }
-    ensures { λ r. ⌜ r ≡ insnForm value (now (body .entry)) ⌝ }
+    ensures { λ r. ⌜ r ≡ formNumber (insnForm value (now (body .entry))) ⌝ }
 {
     let m = mnemonic(body);
     if (2 <= m) & (m <= 4) {

@@ -1,6 +1,6 @@
 // Lines: their forms, their tokens, and the lines of a plan.
-pub mod assembly;
+pub mod asm;
+pub mod coded;
 pub mod forms;
-pub mod lines;
-pub mod print;
+pub mod pieces;
 pub mod rows;

@@ -9,12 +9,12 @@ use lib.ListN.{length, getD, take, length-append, length-take}
 use lib.Seq.{take-append-add, take-length}
 use Rattle.tokens.specs.Token.{Token}
 use Rattle.tokens.specs.Listing.{textOf, endsFrom, join, all, countsFrom, listing, bytesOf}
-use Rattle.tokens.specs.ListingLaws.{all-bytes}
+use Rattle.tokens.proofs.ListingLaws.{all-bytes}
 use Rattle.record.specs.declared.header.Header.{Header}
 use Rattle.record.specs.Layout.{startsAt, startsOf, addressesAt, addressesOf}
 use Rattle.record.specs.Blocks.{startAt}
 use Rattle.record.specs.Body.{addressAt}
-use Rattle.operand.specs.Bounds.{AllBytes, bytes-drop, u64-small}
+use Rattle.operand.proofs.Bounds.{AllBytes, bytes-drop, u64-small}
 use Rattle.structure.specs.Plan.{What, Line}
 use Rattle.structure.specs.Plan.What.{label-line, do-line, open-line, if-goto, while-line, close-line, goto-line, tail-call, insn-line}
 use Rattle.pseudo.specs.Listed.{addressFor, lineAddress}

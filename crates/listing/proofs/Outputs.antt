@@ -10,9 +10,9 @@ use lib.Seq.{take-append-seam}
 use Rattle.lists.specs.Put.{put}
 use Rattle.lists.specs.PutLaws.{put-fits}
 use Rattle.tokens.specs.Listing.{Listing}
-use Rattle.tokens.specs.ListingLaws.{lines-length}
+use Rattle.tokens.proofs.ListingLaws.{lines-length}
 use Rattle.record.specs.Header.{headerOf}
-use Rattle.operand.specs.Bounds.{AllBytes}
+use Rattle.operand.proofs.Bounds.{AllBytes}
 use Rattle.cfg.specs.Graph.{firstIn}
 use Rattle.flow.specs.Rows.{blockRows}
 use Rattle.flow.specs.Planned.{recordPlan}

@@ -14,7 +14,7 @@ use Rattle.record.specs.Asked.{atlasAsked, firstNo}
 use Rattle.record.proofs.AskedLaws.{yes-atlas}
 use Rattle.record.specs.Search.{Rises}
 use Rattle.record.proofs.Rising.{tested-rise}
-use Rattle.operand.specs.Tables.{Rising}
+use Rattle.operand.specs.Lent.{Rising}
 
 entries-rise : (entries pairs : List ℕ) (A : ℕ) → entriesOk entries pairs A ≡ true → Rises (entryAddress entries) A
 unfolding entriesOk

@@ -26,7 +26,7 @@ use Rattle.operand.specs.Names.{nameOr, inSpan}
 use Rattle.operand.specs.Memory.{registerToken, number, isSegmentRead, isGlobal, isSlot, segmentRead, global, slotToken, addressOf, address, addressExpr, memExpr, memTokens}
 use Rattle.operand.specs.Operand.{signedRead, inWindow, immediateNumber, immediate, opTokens}
 use Rattle.operand.proofs.Integers.{i64-fits, wide}
-use Rattle.operand.proofs.Pushes.{yes-is, no-is}
+use Rattle.operand.proofs.Readings.{yes-is, no-is}
 
 pub yes-of : {A : Type 0} (t : Bool) (x y : A) → t ≡ true → pick t x y ≡ x
 yes-of t x y e = rw e
@@ -106,13 +106,13 @@ module _ (kind v : ℕ) (z : ℤ) (w : Bool) (f : v < 2 ^ 64) (p : z ≡ signedR
   not-in-window e = sym (no-of (inWindow (signedRead kind v)) (number true (natAbs (signedRead kind v))) (number false v) (sym asked ∙ e))
 
 module _ (h : Header) (s : List ℕ) (kind v : ℕ) where
-  pub in-span : (leb 0x1000 v && inSpan h s v) ≡ true → nameOr h s v 96 ∷ [] ≡ immediate h s kind v ∷ []
-  unfolding immediate
-  in-span e = ap {B = List Token} (λ t. t ∷ []) (sym (yes-of (leb 0x1000 v && inSpan h s v) (nameOr h s v 96) (immediateNumber kind v) e))
+  pub in-span : (leb 0x1000 v && inSpan h s v) ≡ true → nameOr h s v (wordToken 96) ∷ [] ≡ immediate h s kind v ∷ []
+  unfolding immediate wordToken words
+  in-span e = ap {B = List Token} (λ t. t ∷ []) (sym (yes-of (leb 0x1000 v && inSpan h s v) (nameOr h s v (wordToken 96)) (immediateNumber kind v) e))
 
   pub not-in-span : (leb 0x1000 v && inSpan h s v) ≡ false → immediateNumber kind v ∷ [] ≡ immediate h s kind v ∷ []
-  unfolding immediate
-  not-in-span e = ap {B = List Token} (λ t. t ∷ []) (sym (no-of (leb 0x1000 v && inSpan h s v) (nameOr h s v 96) (immediateNumber kind v) e))
+  unfolding immediate wordToken words
+  not-in-span e = ap {B = List Token} (λ t. t ∷ []) (sym (no-of (leb 0x1000 v && inSpan h s v) (nameOr h s v (wordToken 96)) (immediateNumber kind v) e))
 
 -- k is the operand's kind
 module _ (h : Header) (s b : List ℕ) (i k : ℕ) (p : k ≡ operandKind b i) where
@@ -126,8 +126,8 @@ module _ (h : Header) (s b : List ℕ) (i k : ℕ) (p : k ≡ operandKind b i) w
     op-memory-is e = rw (no-is k (operandKind b i) 0 p a, yes-is k (operandKind b i) 1 p e)
 
     module _ (c : k ≡ 1 → ⊥) (v : ℕ) (q : v ≡ operandNumber b i) where
-      pub op-branch-is : k ≡ 2 → nameOr h s v 94 ∷ [] ≡ opTokens h s b i
-      unfolding opTokens
+      pub op-branch-is : k ≡ 2 → nameOr h s v (wordToken 94) ∷ [] ≡ opTokens h s b i
+      unfolding opTokens wordToken words
       op-branch-is e = rw (no-is k (operandKind b i) 0 p a, no-is k (operandKind b i) 1 p c, yes-is k (operandKind b i) 2 p e, q)
 
       pub op-immediate-is : (k ≡ 2 → ⊥) → k ≤ 10 → immediate h s k v ∷ [] ≡ opTokens h s b i
@@ -141,6 +141,11 @@ module _ (h : Header) (s b : List ℕ) (i k : ℕ) (p : k ≡ operandKind b i) w
     op-other-is c d e =
         let l : leb (operandKind b i) 10 ≡ false = lt-leb (operandKind b i) 10 (omega arith) in
         rw (no-is k (operandKind b i) 0 p a, no-is k (operandKind b i) 1 p c, no-is k (operandKind b i) 2 p d, l)
+
+-- the longer of two
+pub pick-le : {A : Type 0} (f : A → ℕ) (n : ℕ) (t : Bool) (x y : A) → f x ≤ n → f y ≤ n → f (pick t x y) ≤ n
+pick-le f n true x y p q = p
+pick-le f n false x y p q = q
 
 -- the words of sizes end with the table
 pub prefix-small : (n : ℕ) → prefixIndex n ≤ 4

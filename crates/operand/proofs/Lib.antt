@@ -1,6 +1,12 @@
 pub mod Entries
 pub mod Integers
-pub mod Pushes
+pub mod Texts
+pub mod Readings
 pub mod Choices
-pub mod Printing
+pub mod WordNames
+pub mod Bounds
+pub mod Tokens
+pub mod Entry
+pub mod Pieces
+pub mod SameText
 pub mod Accepted

@@ -3,6 +3,6 @@ pub mod Names
 pub mod Memory
 pub mod Operand
 pub mod Alike
-pub mod Bounds
-pub mod Tables
+pub mod Alone
+pub mod Lent
 pub mod Sized

@@ -1,16 +1,17 @@
 -- `mem`: a memory operand, read (`deref`) or as an address.
-use Prim.Native.Nat.{ℕ, _+_, _%_}
+use Prim.Native.Nat.{ℕ, _%_}
 use mathlib.Core.Bool.{Bool, true, false, not, _&&_, _||_}
-use mathlib.Core.List.{List, [], _∷_}
+use mathlib.Core.List.{List, [], _∷_, _++_}
 use lib.Dec.{eqb, ltb}
 use lib.IntN.{ℤ, pos, negsuc, _+ℤ_, natAbs}
+use Rattle.lists.specs.Ascii.{ascii}
 use Rattle.lists.specs.Choice.{pick}
 use Rattle.lists.specs.Signed.{i32Of, i64Of}
 use Rattle.text.specs.Number.{numText}
-use Rattle.tokens.specs.Token.{Token, token, punct}
-use Rattle.tokens.specs.Words.{wordToken, prefixed}
+use Rattle.tokens.specs.Token.{Token, token, punct, keyword, register}
+use Rattle.tokens.specs.Words.{prefixed}
 use Rattle.x86.specs.Registers.{registerName, esp, rsp, eip, rip, fs, gs, isStackPointer}
-use Rattle.x86.specs.Sizes.{sizeIndex, prefixIndex}
+use Rattle.x86.specs.Sizes.{sizeType, sizePrefix}
 use Rattle.record.specs.declared.header.Header.{Header}
 use Rattle.record.specs.Body.{segmentOf, baseOf, indexOf, scaleOf, memorySize, memoryAddress}
 use Rattle.operand.specs.Expr.{Expr, tight, wrap, binop}
@@ -33,16 +34,19 @@ registerToken r = token 1 (registerName r)
 abbrev pub number : Bool → ℕ → Token
 number negative n = token 2 (numText negative n)
 
--- the read of a segment register's memory: __readgsqword and so on, by size
-unfoldable pub segmentWord : ℕ → ℕ → ℕ
-segmentWord seg size = pick (eqb seg gs) (pick (eqb size 8) 63 (pick (eqb size 4) 64 65)) (pick (eqb size 8) 66 (pick (eqb size 4) 67 68))
+-- the read of a segment register's memory, by size
+unfoldable pub segmentWord : ℕ → ℕ → Token
+segmentWord seg size =
+    pick (eqb seg gs)
+    (pick (eqb size 8) (keyword "__readgsqword") (pick (eqb size 4) (keyword "__readgsdword") (keyword "__readgsbyte")))
+    (pick (eqb size 8) (keyword "__readfsqword") (pick (eqb size 4) (keyword "__readfsdword") (keyword "__readfsbyte")))
 
--- `*(uint32_t *)` and so on, and `dword_` and so on, as words by size
-abbrev pub typeWord : ℕ → ℕ
-typeWord size = 69 + sizeIndex size
+-- `*(uint32_t *)` and so on, and `dword_` and so on, by size
+unfoldable pub typeWord : ℕ → Token
+typeWord size = token 3 (ascii "*(" ++ (sizeType size ++ ascii " *)"))
 
-abbrev pub prefixWord : ℕ → ℕ
-prefixWord size = 97 + prefixIndex size
+unfoldable pub prefixWord : ℕ → Token
+prefixWord size = token 4 (sizePrefix size)
 
 -- `&` in front of what is not read, but of no literal
 abbrev pub addressOf : Bool → Token → List Token
@@ -61,7 +65,7 @@ abbrev pub isSegmentRead : List ℕ → Bool
 isSegmentRead b = isFsOrGs (segmentOf b) && eqb (baseOf b) 0 && eqb (indexOf b) 0
 
 abbrev pub segmentRead : List ℕ → List Token
-segmentRead b = wordToken (segmentWord (segmentOf b) (memorySize b)) ∷ punct "(" ∷ number false (memoryAddress b) ∷ punct ")" ∷ []
+segmentRead b = segmentWord (segmentOf b) (memorySize b) ∷ punct "(" ∷ number false (memoryAddress b) ∷ punct ")" ∷ []
 
 -- absolute or by rip or eip: a global
 abbrev pub isGlobal : List ℕ → Bool
@@ -95,7 +99,7 @@ module _ (h : Header) where
 
   -- var_ by the stack pointer or below the frame register, arg_ above it
   unfoldable pub slotToken : List ℕ → Token
-  slotToken b = prefixed (pick (isStackPointer (slotBase b) || isNegative (slotNumber b)) 92 93) (natAbs (slotNumber b))
+  slotToken b = prefixed (pick (isStackPointer (slotBase b) || isNegative (slotNumber b)) (register "var_") (register "arg_")) (natAbs (slotNumber b))
 
   -- the displacement that an address prints: never shifted
   unfoldable pub displacement : List ℕ → ℤ
@@ -114,7 +118,7 @@ module _ (h : Header) where
       (binop (registers b) (pick (isNegative (displacement b)) (punct " - ") (punct " + ")) (tight (number false (natAbs (displacement b)) ∷ [])))
 
   abbrev pub address : Bool → List ℕ → Expr
-  address true b = tight (wordToken (typeWord (memorySize b)) ∷ wrap (addressExpr b))
+  address true b = tight (typeWord (memorySize b) ∷ wrap (addressExpr b))
   address false b = addressExpr b
 
   module _ (s : List ℕ) where

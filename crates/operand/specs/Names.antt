@@ -6,7 +6,7 @@ use mathlib.Core.List.{List}
 use lib.Dec.{eqb, leb}
 use Rattle.lists.specs.Choice.{pick, anyBelow}
 use Rattle.text.specs.Literal.{literalText}
-use Rattle.tokens.specs.Token.{Token, token}
+use Rattle.tokens.specs.Token.{Token, token, symbol}
 use Rattle.tokens.specs.Words.{prefixed}
 use Rattle.record.specs.declared.header.Header.{Header}
 use Rattle.record.specs.Layout.{entriesOf, pairsOf, textsOf, spansOf}
@@ -27,17 +27,17 @@ module _ (h : Header) (s : List ℕ) where
       let t = entryText (pairsOf h s) (textsOf h s) k in
       pick (eqb kind 3) (token 4 t) (token 5 (literalText (eqb kind 2) t))
 
-  abbrev pub nameOrAt : Found → ℕ → ℕ → Token
-  nameOrAt (At k) va w = entryToken k
-  nameOrAt Nothing va w = prefixed w va
+  abbrev pub nameOrAt : Found → ℕ → Token → Token
+  nameOrAt (At k) va prefix = entryToken k
+  nameOrAt Nothing va prefix = prefixed prefix va
 
-  -- the token for an address, with the word w as the prefix where no entry has it
-  unfoldable pub nameOr : ℕ → ℕ → Token
-  nameOr va w = nameOrAt (entryAt va) va w
+  -- the token for an address, with a prefix where no entry has it
+  unfoldable pub nameOr : ℕ → Token → Token
+  nameOr va prefix = nameOrAt (entryAt va) va prefix
 
   -- whether a literal stands for the address
   abbrev pub isLiteral : ℕ → Bool
-  isLiteral va = eqb (nameOr va 101 .kind) 5
+  isLiteral va = eqb (nameOr va (symbol "unk_") .kind) 5
 
   -- the same of what a search found: an entry that is no name
   abbrev pub literalAt : Found → Bool

@@ -6,7 +6,7 @@ use lib.Dec.{eqb, leb, ltb}
 use lib.IntN.{ℤ, pos, negsuc, natAbs}
 use Rattle.lists.specs.Choice.{pick}
 use Rattle.lists.specs.Signed.{i32Of, i64Of}
-use Rattle.tokens.specs.Token.{Token, plainText}
+use Rattle.tokens.specs.Token.{Token, plainText, symbol}
 use Rattle.record.specs.declared.header.Header.{Header}
 use Rattle.record.specs.Body.{operandKind, operandRegister, operandNumber}
 use Rattle.operand.specs.Names.{nameOr, inSpan}
@@ -29,7 +29,7 @@ immediateNumber kind v = pick (inWindow (signedRead kind v)) (number true (natAb
 module _ (h : Header) (s : List ℕ) where
   -- "An immediate of 0x1000 or more inside a span is a name with `off_`. Otherwise .."
   unfoldable pub immediate : ℕ → ℕ → Token
-  immediate kind v = pick (leb 0x1000 v && inSpan h s v) (nameOr h s v 96) (immediateNumber kind v)
+  immediate kind v = pick (leb 0x1000 v && inSpan h s v) (nameOr h s v (symbol "off_")) (immediateNumber kind v)
 
   -- "Operand kinds: 0 register, 1 memory, 2 near branch, 3 to 10 immediates .., 11 other"
   unfoldable pub opTokens : List ℕ → ℕ → List Token
@@ -37,6 +37,6 @@ module _ (h : Header) (s : List ℕ) where
       let kind = operandKind b i in
       pick (eqb kind 0) (registerToken (operandRegister b i) ∷ [])
       (pick (eqb kind 1) (memTokens h s true b)
-      (pick (eqb kind 2) (nameOr h s (operandNumber b i) 94 ∷ [])
+      (pick (eqb kind 2) (nameOr h s (operandNumber b i) (symbol "loc_") ∷ [])
       (pick (leb kind 10) (immediate kind (operandNumber b i) ∷ [])
       (plainText "?" ∷ []))))

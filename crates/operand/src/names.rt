@@ -1,5 +1,7 @@
 // Names of addresses: the entry of the atlas, the token of what was found, and the spans.
-use lists::parts::part;
+use codes::code::code_literal;
+use codes::code::code_part;
+use codes::code::code_prefixed;
 use lists::reads::from;
 use record::atlas::entry_kind;
 use record::atlas::entry_length;
@@ -13,16 +15,18 @@ use record::layout::spans_at;
 use record::layout::texts_at;
 use record::search::Found;
 use record::search::search;
-use tokens::pen::Pen;
-use tokens::push::push_bytes;
-use tokens::push::push_literal;
-use tokens::push::push_prefixed;
 ghost use mathlib.Core.List.{[], _∷_};
 ghost use mathlib.Core.Path.{_≡_};
-ghost use Rattle.tokens.specs.Sheet.{sheet, push, pushes};
-ghost use Rattle.tokens.specs.Words.{wordBytes};
 ghost use Rattle.operand.specs.Names.{entryAt, entryToken, nameOrAt, nameOr, literalAt, inSpan};
-ghost use Rattle.operand.specs.Tables.{Rising};
+ghost use Rattle.operand.specs.Lent.{Rising};
+ghost use Prim.Native.Nat.{_≤_, _<_, _+_};
+ghost use lib.ListN.{length};
+ghost use Rattle.record.specs.Layout.{textsAt, pairsOf};
+ghost use Rattle.record.specs.Atlas.{textStart};
+ghost use Rattle.tokens.specs.Words.{wordToken};
+ghost use Rattle.codes.specs.Coded.{Coded};
+ghost use Rattle.codes.specs.Tables.{tableBytes};
+ghost use Rattle.operand.specs.Lent.{Lent};
 
 // The entry at an address.
 pub fn entry_at(rec: &[u8], h: Header, va: u64) -> Found
@@ -42,75 +46,6 @@ pub fn is_literal(rec: &[u8], h: Header, found: Found) -> bool
     }
 }
 
-// The token of entry k.
-fn push_text(
-    text: &mut [u8],
-    ends: &mut [u32],
-    kinds: &mut [u8],
-    pen: Pen,
-    rec: &[u8],
-    h: Header,
-    k: u16,
-) -> Pen
-    ensures { λ r. ⌜ sheet (now (text .exit)) (now (ends .exit)) (now (kinds .exit)) r
-        ≡ push (sheet (now (text .entry)) (now (ends .entry)) (now (kinds .entry)) pen) (entryToken h (now (rec .entry)) k) ⌝ }
-{
-    let pairs = from(rec, pairs_at(h));
-    let kind = entry_kind(pairs, k);
-    let t = part(
-        from(rec, texts_at(h)),
-        text_start(pairs, k),
-        entry_length(pairs, k) as usize,
-    );
-    if kind == 3 {
-        return push_bytes(text, ends, kinds, pen, 4, t);
-    }
-    push_literal(text, ends, kinds, pen, kind == 2, t)
-}
-
-// The token of what was found at an address, with word w as the prefix where nothing was.
-pub fn push_found(
-    text: &mut [u8],
-    ends: &mut [u32],
-    kinds: &mut [u8],
-    pen: Pen,
-    words: &[u8],
-    rec: &[u8],
-    h: Header,
-    found: Found,
-    va: u64,
-    w: u8,
-) -> Pen
-    requires { ⌜ now words ≡ wordBytes ⌝ }
-    ensures { λ r. ⌜ sheet (now (text .exit)) (now (ends .exit)) (now (kinds .exit)) r
-        ≡ push (sheet (now (text .entry)) (now (ends .entry)) (now (kinds .entry)) pen) (nameOrAt h (now (rec .entry)) found va w) ⌝ }
-{
-    match found {
-        Found::At(k) => push_text(text, ends, kinds, pen, rec, h, k),
-        Found::Nothing => push_prefixed(text, ends, kinds, pen, words, w, va),
-    }
-}
-
-// The token for an address.
-pub fn name_or(
-    text: &mut [u8],
-    ends: &mut [u32],
-    kinds: &mut [u8],
-    pen: Pen,
-    words: &[u8],
-    rec: &[u8],
-    h: Header,
-    va: u64,
-    w: u8,
-) -> Pen
-    requires { ⌜ (now words ≡ wordBytes) × Rising h (now rec) ⌝ }
-    ensures { λ r. ⌜ sheet (now (text .exit)) (now (ends .exit)) (now (kinds .exit)) r
-        ≡ pushes (sheet (now (text .entry)) (now (ends .entry)) (now (kinds .entry)) pen) (nameOr h (now (rec .entry)) va w ∷ []) ⌝ }
-{
-    let found = entry_at(rec, h, va);
-    push_found(text, ends, kinds, pen, words, rec, h, found, va, w)
-}
-
 // Whether an address lies in a span.
 pub fn in_span(rec: &[u8], h: Header, va: u64) -> bool
     ensures { λ r. ⌜ r ≡ inSpan h (now (rec .entry)) va ⌝ }
@@ -125,4 +60,56 @@ pub fn in_span(rec: &[u8], h: Header, va: u64) -> bool
         k += 1;
     }
     false
+}
+
+// Where the text of entry k begins in the record.
+fn text_place(rec: &[u8], h: Header, k: u16) -> u32
+    ensures { λ r. ⌜ r ≡ textsAt h + textStart (pairsOf h (now (rec .entry))) k ⌝ }
+{
+    (texts_at(h) + text_start(from(rec, pairs_at(h)), k)) as u32
+}
+
+// The token of entry k.
+fn code_entry(codes: &mut [u64], tables: &[u8], rec: &[u8], h: Header, k: u16)
+    requires { ⌜ 5 ≤ length (now codes) ⌝ }
+    ensures { λ _. ⌜ Coded (now (tables .entry)) (now (rec .entry)) (now (codes .entry)) (now (codes .exit)) (entryToken h (now (rec .entry)) k ∷ []) ⌝ }
+{
+    let pairs = from(rec, pairs_at(h));
+    let kind = entry_kind(pairs, k);
+    let n = entry_length(pairs, k);
+    let at = text_place(rec, h, k);
+    if kind == 3 {
+        return code_part(codes, tables, rec, 4, at, n as u16);
+    }
+    code_literal(codes, tables, rec, kind == 2, at, n)
+}
+
+// The token of what was found at an address, with word w as the prefix where nothing was.
+pub fn code_found(
+    codes: &mut [u64],
+    tables: &[u8],
+    rec: &[u8],
+    h: Header,
+    found: Found,
+    va: u64,
+    w: u8,
+)
+    requires { ⌜ (5 ≤ length (now codes)) × (now tables ≡ tableBytes) ⌝ }
+    requires { ⌜ w < 102 ⌝ }
+    ensures { λ _. ⌜ Coded (now (tables .entry)) (now (rec .entry)) (now (codes .entry)) (now (codes .exit)) (nameOrAt h (now (rec .entry)) found va (wordToken w) ∷ []) ⌝ }
+{
+    match found {
+        Found::At(k) => code_entry(codes, tables, rec, h, k),
+        Found::Nothing => code_prefixed(codes, tables, w, va),
+    }
+}
+
+// The token for an address.
+pub fn name_or(codes: &mut [u64], tables: &[u8], rec: &[u8], h: Header, va: u64, w: u8)
+    requires { ⌜ Lent (now codes) (now tables) h (now rec) ⌝ }
+    requires { ⌜ w < 102 ⌝ }
+    ensures { λ _. ⌜ Coded (now (tables .entry)) (now (rec .entry)) (now (codes .entry)) (now (codes .exit)) (nameOr h (now (rec .entry)) va (wordToken w) ∷ []) ⌝ }
+{
+    let found = entry_at(rec, h, va);
+    code_found(codes, tables, rec, h, found, va, w)
 }

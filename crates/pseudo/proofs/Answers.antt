@@ -13,7 +13,7 @@ use Rattle.lists.specs.Put.{put}
 use Rattle.lists.specs.PutLaws.{put-fits}
 use Rattle.tokens.specs.Token.{Token}
 use Rattle.tokens.specs.Listing.{Listing, listing}
-use Rattle.tokens.specs.ListingLaws.{lines-length, kinds-as-ends}
+use Rattle.tokens.proofs.ListingLaws.{lines-length, kinds-as-ends}
 use Rattle.record.specs.declared.header.Header.{Header}
 use Rattle.structure.specs.Plan.{Line}
 use Rattle.line.specs.Lines.{lineIn}
@@ -22,6 +22,7 @@ use Rattle.pseudo.specs.Listed.{lineAddress, lineMark}
 use Rattle.lists.specs.Every.{both-yes}
 use Rattle.record.proofs.AskedLaws.{passed}
 use Rattle.pseudo.specs.Called.{roomNo, roomsOf, sizesOf, over, Stands, Leaves, PlanListed}
+use Rattle.pseudo.specs.Coded.{Holds}
 use Rattle.pseudo.specs.declared.rooms.Sizes.{Sizes}
 use Rattle.pseudo.specs.declared.rooms.Rooms.{Rooms}
 use Rattle.pseudo.specs.declared.call.Answer.the-variants.{Listed, No}
@@ -84,8 +85,8 @@ printed-length h s range mask [] = refl
 printed-length h s range mask (l ∷ ls) = ap suc (printed-length h s range (maskAfter h s mask (l .what) (l .at)) ls)
 
 -- as many lines as codes
-pub codes-length : (h : Header) (s : List ℕ) (range : ℕ) (codes : List ℕ) → length codes ≡ length (printed h s range 0 (map lineIn codes))
-codes-length h s range codes = sym (length-map codes lineIn) ∙ sym (printed-length h s range 0 (map lineIn codes))
+pub codes-length : (h : Header) (s : List ℕ) (range mask : ℕ) (codes : List ℕ) → length codes ≡ length (printed h s range mask (map lineIn codes))
+codes-length h s range mask codes = sym (length-map codes lineIn) ∙ sym (printed-length h s range mask (map lineIn codes))
 
 -- the number of lines by the codes, or by the lines' addresses
 pub sizes-of-lines : (h : Header) (s codes : List ℕ) (t : Listing) → sizesOf t codes ≡ sizesOf t (map (lineAddress h s) (map lineIn codes))
@@ -103,6 +104,19 @@ module _ (h : Header) (s : List ℕ) (range : ℕ) (codes : List ℕ) (z : Sizes
 
   sizes-again : z ≡ sizesOf t codes → z ≡ sizesOf t va
   sizes-again q = q ∙ sizes-of-lines h s codes t
+
+  -- no question of room gets a no: the lists are as long as the listing's
+  pub plan-holds : z ≡ sizesOf t codes → n ≡ roomNo z (roomsOf x e k a m l) → n ≡ 0 → Holds t x e k l
+  plan-holds q p o =
+      let y = room-yes z (roomsOf x e k a m l) (sym p ∙ o) in
+      let tokens : z .tokens ≡ length (t .ends) = ap (λ (z : Sizes). z .tokens) q in
+      let count : z .lines ≡ length codes = ap (λ (z : Sizes). z .lines) q in
+      record {
+        text = omega (arith, y .text, ap (λ (z : Sizes). z .text) q);
+        ends = omega (arith, y .ends, tokens);
+        kinds = omega (arith, y .kinds, tokens, kinds-as-ends (printed h s range 0 lines));
+        lines = omega (arith, y .lines, count, lines-length (printed h s range 0 lines), codes-length h s range 0 codes);
+      }
 
   pub plan-refused : z ≡ sizesOf t codes → n ≡ roomNo z (roomsOf x e k a m l) → (n ≡ 0 → ⊥) → PlanListed h s range lines x x e e k k a a m m l l (No n)
   plan-refused q p o = rw (← sizes-again q, ← p) (refused n z t va (map lineMark lines) x e k a m l o)

@@ -3,7 +3,7 @@
 use mathlib.Core.Path.{_≡_, refl, sym, ap, _∙_}
 use mathlib.Core.Bool.{Bool, true, false}
 use mathlib.Core.List.{List, [], _∷_, map}
-use Prim.Native.Nat.{ℕ, zero, suc, _^_, _≤_, _<_}
+use Prim.Native.Nat.{ℕ, zero, suc, _+_, _*_, _^_, _≤_, _<_}
 use native.Mathlib.Nat.{not-suc-le-zero}
 use native.Mathlib.Omega.{arith}
 use lib.IntN.{natAbs}
@@ -20,15 +20,16 @@ use Rattle.structure.specs.Plan.{codeOf}
 use Rattle.structure.specs.Demand.{Shallow}
 use Rattle.structure.specs.Stored.{Stored}
 use Rattle.operand.proofs.Accepted.{accepted-rising}
-use Rattle.operand.specs.Bounds.{AllBytes, i32-abs}
-use Rattle.operand.specs.Tables.{Rising}
+use Rattle.operand.proofs.Bounds.{AllBytes, i32-abs}
+use Rattle.operand.specs.Lent.{Rising}
 use Rattle.flow.specs.Rows.{blockRows}
 use Rattle.flow.proofs.Laws.{filled}
 use Rattle.flow.specs.Counted.{Counted}
 use Rattle.flow.proofs.Totals.{marks-counted, limits-small}
 use Rattle.flow.specs.Planned.{recordPlan, recordCodes}
-use Rattle.flow.proofs.Bounds.{record-placed, record-few, record-shallow}
-use Rattle.line.specs.Bounds.{Fits, printed-fits}
+use Rattle.flow.proofs.Bounds.{record-placed, record-few, record-within, record-shallow}
+use Rattle.line.specs.Fits.{Fits}
+use Rattle.line.proofs.Longest.{printed-fits}
 use Rattle.line.specs.Lines.{lineIn, lines-again}
 use Rattle.line.specs.Print.{printed}
 use Rattle.record.proofs.AskedLaws.{yes-limits, yes-marks, yes-range}
@@ -69,11 +70,15 @@ module _ (s : List ℕ) (from to : ℕ) (h : Header) (a : Accepted s from to h) 
   few : length (recordPlan h s from to) ≤ 900
   few = record-few h s from to limits counted in-range
 
-  -- the codes that were stored in a list of 900, read back by their number
-  pub codes-are : (zeros plan codes : List ℕ) (n : ℕ) → length zeros ≡ 900 → Stored zeros 0 (recordCodes h s from to) n plan → codes ≡ take n plan → codes ≡ recordCodes h s from to
+  -- 900 numbers have room for any plan
+  pub plan-room : h .instructions + 2 * h .blocks ≤ 900
+  plan-room = let small = limits-small h limits in omega (arith, small .instructions, small .blocks)
+
+  -- the codes that were stored in a list with room for them, read back by their number
+  pub codes-are : (zeros plan codes : List ℕ) (n : ℕ) → h .instructions + 2 * h .blocks ≤ length zeros → Stored zeros 0 (recordCodes h s from to) n plan → codes ≡ take n plan → codes ≡ recordCodes h s from to
   unfolding put
   codes-are zeros plan codes n z p q =
-      filled (recordCodes h s from to) zeros plan codes n n (omega (arith, p .next)) (omega (arith, p .next, length-map (recordPlan h s from to) codeOf, few)) refl (p .list) q
+      filled (recordCodes h s from to) zeros plan codes n n (omega (arith, p .next)) (omega (arith, p .next, length-map (recordPlan h s from to) codeOf, record-within h s from to counted in-range, z)) refl (p .list) q
 
   module _ (codes : List ℕ) (e : codes ≡ recordCodes h s from to) where
     pub lines-are : map lineIn codes ≡ recordPlan h s from to

@@ -23,7 +23,7 @@ use Rattle.flow.specs.Rows.{blockRows, edgeRows}
 use Rattle.flow.specs.Planned.{recordPlan}
 use Rattle.flow.proofs.Bounds.{record-demand3, record-shallow, many-within}
 use Rattle.flow.proofs.Silenced.{unsilent-is, plain-jmps}
-use Rattle.tokens.specs.ListingLaws.{lines-length}
+use Rattle.tokens.proofs.ListingLaws.{lines-length}
 use Rattle.pseudo.specs.Listed.{addressFor, lineAddress, markFor, lineMark, recordLines, recordListing, recordAddresses, recordMarks}
 use Rattle.pseudo.specs.Called.{Accepted}
 use Rattle.pseudo.specs.Demand.{staying, indentIn, NestedBy, ShallowBy, whatOf, placed, LinesDemand3}

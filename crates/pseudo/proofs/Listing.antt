@@ -1,76 +1,150 @@
--- What is printed on lists, and its sizes, are those of the listing; a draft that holds all of it may be copied.
--- `listed` of tokens, for the first pen; what was stored in a list with room is read back by its length.
-use mathlib.Core.Path.{_≡_, refl, sym, ap, _∙_}
-use mathlib.Core.Bool.{Bool, true, false, _&&_}
-use mathlib.Core.List.{List}
-use Prim.Native.Nat.{ℕ, _≤_}
+-- What the codes of a plan's lines tell, and what is written from them: the sizes, the codes read back, one turn, and the lists behind all.
+-- No sum wraps, because the lines are few and short; lines written in turns are the lines left, written from where the cursor stands.
+use mathlib.Core.Path.{_≡_, refl, ap, _∙_}
+use mathlib.Core.List.{List, [], _∷_, map}
+use Prim.Native.Nat.{ℕ, _+_, _*_, _≤_, _<_}
 use native.Mathlib.Omega.{arith}
-use borrow.Author.Tests.{leb-true}
-use lib.Dec.{leb}
-use lib.ListN.{length, take}
+use lib.ListN.{length, getD, take, drop}
+use lib.Seq.{drop-cons}
 use Rattle.lists.specs.Put.{put}
-use Rattle.lists.specs.PutLaws.{put-length}
-use Rattle.tokens.specs.declared.pen.Pen.{Pen}
 use Rattle.tokens.specs.Token.{Token}
-use Rattle.tokens.specs.Sheet.{firstPen}
-use Rattle.tokens.specs.Page.{Page, page, linesOn}
-use Rattle.tokens.specs.Listing.{Listing, listing}
-use Rattle.tokens.specs.ListingLaws.{Listed, listed, lines-length, kinds-as-ends}
-use Rattle.lists.specs.Every.{both-yes}
-use Rattle.flow.proofs.Laws.{put-read}
-use Rattle.line.specs.Bounds.{Fits}
+use Rattle.tokens.specs.Listing.{all, Listing, listing, bytesOf, pushesOf}
+use Rattle.tokens.proofs.ListingLaws.{ends-length, all-bytes, all-count}
+use Rattle.codes.specs.Code.{decode}
+use Rattle.codes.specs.Coded.{bytesIn, tokensIn, countIn, codesIn, Started}
+use Rattle.codes.specs.Lines.{ofLines, CodedLines}
+use Rattle.codes.proofs.CodedLines.{count-few, read-back}
+use Rattle.writer.specs.Written.{page, start, onPage, Room, Listed, Ready}
+use Rattle.writer.specs.declared.write.Cursor.{Cursor}
+use Rattle.writer.proofs.Listed.{room-listed}
+use Rattle.writer.proofs.Turns.{lines-room, turn-page, turn-room, turns-done}
+use Rattle.record.specs.declared.header.Header.{Header}
+use Rattle.line.specs.Fits.{Short, Fits}
+use Rattle.line.specs.Lines.{lineIn}
+use Rattle.line.specs.Print.{lineTokens, maskAfter, printed}
+use Rattle.line.proofs.CodedTurns.{printed-step}
 use Rattle.pseudo.specs.Called.{sizesOf, Stands}
-use Rattle.pseudo.specs.Draft.{Draft, holds, Copied, Printed}
-use Rattle.pseudo.specs.declared.rooms.Sizes.{Sizes}
+use Rattle.pseudo.specs.Coded.{HoldsLines, Holds, Printed}
 
--- what was stored in a list begins it, if there is room
-begins : (t x x′ : List ℕ) → x′ ≡ put 0 t x → length t ≤ length x′ → take (length t) x′ ≡ t
-begins t x x′ e h = rw e (put-read t x (length t) refl (omega (arith, h, ap length e, put-length 0 t x)))
+-- ---- the sizes of a listing, by what its lines have
+text-length : (ls : List (List Token)) → length (listing ls .text) ≡ bytesOf ls
+unfolding listing
+text-length ls = all-bytes ls
 
-module _ (ls : List (List Token)) (f : Fits ls) (p : Pen) (first : p ≡ firstPen) (l l′ x x′ e e′ k k′ : List ℕ) (r : Pen)
-    (q : page l′ x′ e′ k′ r ≡ linesOn (page l x e k p) 0 ls) where
-  stored : Listed ls l l′ x x′ e e′ k k′ r
-  stored = listed ls l l′ x x′ e e′ k k′ r 255 false (f .bytes) (f .tokens) (q ∙ ap {B = Page} (λ (p : Pen). linesOn (page l x e k p) 0 ls) first)
+tokens-length : (ls : List (List Token)) → length (listing ls .ends) ≡ length (all ls)
+unfolding listing
+tokens-length ls = ends-length 0 (all ls)
 
-  pub sizes-are : (codes : List ℕ) → record { text = r .text; tokens = r .tokens; lines = length codes } ≡ sizesOf (listing ls) codes
-  sizes-are codes = rw (stored .bytes, stored .tokens)
+-- ---- lines coded in a list where nothing was coded before
+module _ (t s c c′ : List ℕ) (ls : List (List Token)) (a : Started c) (g : CodedLines t s c c′ ls) where
+  pub sizes-are : Fits ls → (plan : List ℕ) → record { text = bytesIn c′; tokens = tokensIn c′; lines = length plan } ≡ sizesOf (listing ls) plan
+  sizes-are f plan =
+      let x : bytesIn c′ ≡ length (listing ls .text) = omega (arith, g .bytes, a .no-bytes, f .bytes, text-length ls) in
+      let n : tokensIn c′ ≡ length (listing ls .ends) = omega (arith, g .tokens, a .no-tokens, f .tokens, all-count ls, tokens-length ls) in
+      rw (x, n)
 
-  pub draft-is : Draft (listing ls) x′ e′ k′ l′
-  draft-is = record { text = begins _ x x′ (stored .text); ends = begins _ e e′ (stored .ends); kinds = begins _ k k′ (stored .kinds); lines = begins _ l l′ (stored .lines) }
+  pub holds-lines : Fits ls → length c′ ≡ length c → HoldsLines t s c′ ls
+  holds-lines f e = λ room. read-back t s c c′ ls a g (omega (arith, f .tokens, f .lines)) (omega (arith, room, e))
 
-  pub printed-is : Printed (listing ls) x x′ e e′ k k′ l l′
-  printed-is = record { text = stored .text; ends = stored .ends; kinds = stored .kinds; lines = stored .lines }
+  -- a list with room for so many codes as the lines can have
+  module _ (m : ℕ) (room : 5 + (2 * pushesOf ls + m) ≤ length c) (e : length c′ ≡ length c) (n : m ≡ length ls) (small : length c < 18446744073709551616) where
+    pub part-counted : 5 + countIn c′ ≤ length c′
+    part-counted = omega (arith, room, e, n, count-few t s c c′ ls a g (omega (arith, room, n, small)))
 
--- ---- a draft that holds all
-record Held (t e k l : List ℕ) (z : Sizes) : Type 0 where
-  text : z .text ≤ length t
-  ends : z .tokens ≤ length e
-  kinds : z .tokens ≤ length k
-  lines : z .lines ≤ length l
+    pub part-reads : (p : List ℕ) → p ≡ take (countIn c′) (codesIn c′) → decode t s p ≡ ofLines ls
+    part-reads p q = ap (decode t s) q ∙ read-back t s c c′ ls a g (omega (arith, room, n, small)) (omega (arith, part-counted, e))
 
-held : (t e k l : List ℕ) (z : Sizes) → holds t e k l z ≡ true → Held t e k l z
-held t e k l z h =
-    let a = both-yes (leb (z .text) (length t) && leb (z .tokens) (length e) && leb (z .tokens) (length k)) (leb (z .lines) (length l)) h in
-    let b = both-yes (leb (z .text) (length t) && leb (z .tokens) (length e)) (leb (z .tokens) (length k)) (a .0) in
-    let c = both-yes (leb (z .text) (length t)) (leb (z .tokens) (length e)) (b .0) in
-    record { text = leb-true _ _ (c .0); ends = leb-true _ _ (c .1); kinds = leb-true _ _ (b .1); lines = leb-true _ _ (a .1) }
+-- ---- lines that lists have room for
+module _ (ls : List (List Token)) (f : Fits ls) (x e k l : List ℕ) (h : Holds (listing ls) x e k l) where
+  small-text : length (listing ls .text) < 4294967296
+  small-text = omega (arith, f .bytes, text-length ls)
 
--- a part copied by its size is the listing's
-copied : (s t x x′ : List ℕ) (n : ℕ) → n ≡ length s → n ≤ length t → (length s ≤ length t → take (length s) t ≡ s) → x′ ≡ put 0 (take n t) x → x′ ≡ put 0 s x
-copied s t x x′ n e h d c = c ∙ ap (λ (u : List ℕ). put 0 u x) (ap (λ (m : ℕ). take m t) e ∙ d (omega arith))
+  small-tokens : length (listing ls .ends) < 4294967296
+  small-tokens = omega (arith, f .tokens, all-count ls, tokens-length ls)
 
-pub copied-printed : (ls : List (List Token)) (codes : List ℕ) (t e k l : List ℕ) (z : Sizes) (b : Bool) (x x′ f f′ g g′ m m′ : List ℕ) → length codes ≡ length ls
-    → z ≡ sizesOf (listing ls) codes → b ≡ holds t e k l z → b ≡ true → Draft (listing ls) t e k l → Copied t e k l z x x′ f f′ g g′ m m′ → Printed (listing ls) x x′ f f′ g g′ m m′
-copied-printed ls codes t e k l z b x x′ f f′ g g′ m m′ n s c y d p =
-    let h = held t e k l z (sym c ∙ y) in
-    let tokens : z .tokens ≡ length (listing ls .ends) = ap (λ (z : Sizes). z .tokens) s in
-    record {
-      text = copied _ t x x′ _ (ap (λ (z : Sizes). z .text) s) (h .text) (d .text) (p .text);
-      ends = copied _ e f f′ _ tokens (h .ends) (d .ends) (p .ends);
-      kinds = copied _ k g g′ _ (tokens ∙ sym (kinds-as-ends ls)) (h .kinds) (d .kinds) (p .kinds);
-      lines = copied _ l m m′ _ (ap (λ (z : Sizes). z .lines) s ∙ (n ∙ sym (lines-length ls))) (h .lines) (d .lines) (p .lines);
-    }
+  pub ready : (t s c : List ℕ) → decode t s c ≡ ofLines ls → Ready t s c (length x) (length e) (length k) (length l)
+  ready t s c d =
+      record {
+        of = ls;
+        codes = d;
+        text = h .text;
+        ends = h .ends;
+        kinds = h .kinds;
+        lines = h .lines;
+        small-text = small-text;
+        small-tokens = small-tokens;
+      }
 
+  room-whole : Room (length x) (length e) (length k) (length l) start (ofLines ls)
+  room-whole = room-listed ls x e k l (h .text) (h .ends) (h .kinds) (h .lines) small-text small-tokens
+
+pub printed-is : (ls : List (List Token)) (x x′ e e′ k k′ l l′ : List ℕ) (q : Cursor) → Listed ls (page x e k l start) (page x′ e′ k′ l′ q)
+    → Printed (listing ls) x x′ e e′ k k′ l l′
+printed-is ls x x′ e e′ k k′ l l′ q w = record { text = w .text; ends = w .ends; kinds = w .kinds; lines = w .lines }
+
+-- ---- turns: of the lines ls those in `left` are not written yet
+pub record Left (x₀ e₀ k₀ l₀ : List ℕ) (ls : List (List Token)) (x e k l : List ℕ) (p : Cursor) (left : List (List Token)) : Type 0 where
+  pub whole : onPage (page x e k l p) (ofLines left) ≡ onPage (page x₀ e₀ k₀ l₀ start) (ofLines ls)
+  pub room : Room (length x) (length e) (length k) (length l) p (ofLines left)
+  pub short : Short 8189 left
+
+pub left-all : (ls : List (List Token)) (x e k l : List ℕ) → Fits ls → Holds (listing ls) x e k l → Left x e k l ls x e k l start ls
+left-all ls x e k l f h = record { whole = refl; room = room-whole ls f x e k l h; short = f .each }
+
+module _ {x₀ e₀ k₀ l₀ : List ℕ} {ls : List (List Token)} {x e k l : List ℕ} {p : Cursor} {left : List (List Token)} (h : Left x₀ e₀ k₀ l₀ ls x e k l p left) where
+  pub left-none : left ≡ [] → Printed (listing ls) x₀ x e₀ e k₀ k l₀ l
+  left-none n = printed-is ls x₀ x e₀ e k₀ k l₀ l p (turns-done ls x₀ x e₀ e k₀ k l₀ l p (rw n at h .whole))
+
+  -- one line is in front
+  module _ (one : List Token) (rest : List (List Token)) (q : left ≡ one ∷ rest) where
+    first-short : length one ≤ 8189
+    first-short = (rw q at h .short) .0
+
+    pub first-codes : (m n : ℕ) → m ≡ 1 → n ≡ 16384 → 5 + (2 * pushesOf (one ∷ []) + m) ≤ n
+    unfolding pushesOf
+    first-codes m n a b = omega (arith, first-short)
+
+    pub first-room : Room (length x) (length e) (length k) (length l) p (ofLines (one ∷ []))
+    first-room = lines-room p (one ∷ []) rest (length x) (length e) (length k) (length l) (rw q at h .room) .0
+
+    pub left-turn : (x′ e′ k′ l′ : List ℕ) (r : Cursor) → length x′ ≡ length x → length e′ ≡ length e → length k′ ≡ length k → length l′ ≡ length l
+        → page x′ e′ k′ l′ r ≡ onPage (page x e k l p) (ofLines (one ∷ [])) → Left x₀ e₀ k₀ l₀ ls x′ e′ k′ l′ r rest
+    left-turn x′ e′ k′ l′ r a b c d w =
+        record {
+          whole = turn-page p (one ∷ []) rest x x′ e e′ k k′ l l′ r w ∙ (rw q at h .whole);
+          room = turn-room p (one ∷ []) rest x x′ e e′ k k′ l l′ r w a b c d (rw q at h .room);
+          short = (rw q at h .short) .1;
+        }
+
+-- one turn of a plan's lines: the codes of the next line are those from i on, n of them, which is 1
+module _ (h : Header) (s : List ℕ) (range mask i n : ℕ) (cs : List ℕ) (below : i < length cs) (single : n ≡ 1) where
+  abbrev part : List ℕ
+  part = take n (drop i cs)
+
+  abbrev next : List Token
+  next = lineTokens h s range mask (lineIn (getD cs i 0))
+
+  part-is : printed h s range mask (map lineIn part) ≡ next ∷ []
+  unfolding printed
+  part-is = rw (single, drop-cons cs i 0 below)
+
+  part-length : length part ≡ 1
+  part-length = rw (single, drop-cons cs i 0 below)
+
+  module _ {x₀ e₀ k₀ l₀ : List ℕ} {ls : List (List Token)} {x e k l : List ℕ} {p : Cursor} (v : Left x₀ e₀ k₀ l₀ ls x e k l p (printed h s range mask (map lineIn (drop i cs)))) where
+    pub part-codes : (m : ℕ) → m ≡ 16384 → 5 + (2 * pushesOf (printed h s range mask (map lineIn part)) + length part) ≤ m
+    part-codes m r = rw part-is (first-codes v next _ (printed-step h s range cs i mask _ below refl) (length part) m part-length r)
+
+    pub part-room : Room (length x) (length e) (length k) (length l) p (ofLines (printed h s range mask (map lineIn part)))
+    part-room = rw part-is (first-room v next _ (printed-step h s range cs i mask _ below refl))
+
+    pub part-turn : (m : ℕ) (x′ e′ k′ l′ : List ℕ) (r : Cursor) → m ≡ maskAfter h s mask (lineIn (getD cs i 0) .what) (lineIn (getD cs i 0) .at)
+        → length x′ ≡ length x → length e′ ≡ length e → length k′ ≡ length k → length l′ ≡ length l
+        → page x′ e′ k′ l′ r ≡ onPage (page x e k l p) (ofLines (printed h s range mask (map lineIn part)))
+        → Left x₀ e₀ k₀ l₀ ls x′ e′ k′ l′ r (printed h s range m (map lineIn (drop (i + 1) cs)))
+    part-turn m x′ e′ k′ l′ r d a b c f w = left-turn v next _ (printed-step h s range cs i mask m below d) x′ e′ k′ l′ r a b c f (rw part-is at w)
+
+-- ---- all six lists
 pub stands : (p : Listing) (va mk x x′ e e′ k k′ a a′ m m′ l l′ : List ℕ) → Printed p x x′ e e′ k k′ l l′ → a′ ≡ put 0 va a → m′ ≡ put 0 mk m
     → Stands p va mk x x′ e e′ k k′ a a′ m m′ l l′
 stands p va mk x x′ e e′ k k′ a a′ m m′ l l′ q y z = record { text = q .text; ends = q .ends; kinds = q .kinds; addresses = y; marks = z; lines = q .lines }

@@ -1,6 +1,6 @@
 pub mod Listed
 pub mod Marks
-pub mod Draft
+pub mod Coded
 pub mod Called
 pub mod Demand
 pub mod Promise

@@ -1,11 +1,13 @@
 // The call that lists a range.
-use crate::draft::draft_plan;
-use crate::draft::put_lines;
+use crate::coding::code_plan;
 use crate::marks::put_addresses;
 use crate::marks::put_marks;
 use crate::rooms::Rooms;
 use crate::rooms::Sizes;
 use crate::rooms::room_no;
+use crate::writing::write_plan;
+use codes::tables::isa_of;
+use codes::tables::tables;
 use flow::planned::plan_record;
 use flow::rows::block_rows;
 use line::rows::row_table;
@@ -16,20 +18,19 @@ use record::asked::Asked;
 use record::asked::record;
 use record::header::Header;
 use record::layout::size;
-use tokens::words::word_table;
-use x86::table::isa;
 ghost use mathlib.Core.List.{map};
 ghost use mathlib.Core.Path.{_≡_};
-ghost use Rattle.operand.specs.Tables.{Tables};
+ghost use Prim.Native.Nat.{_+_, _*_, _≤_};
+ghost use lib.ListN.{length};
+ghost use Rattle.codes.specs.Tables.{tableBytes};
+ghost use Rattle.operand.specs.Lent.{Rising, Lent};
 ghost use Rattle.flow.specs.Rows.{blockRows};
 ghost use Rattle.line.specs.Codes.{rowBytes};
 ghost use Rattle.line.specs.Lines.{lineIn};
 ghost use Rattle.line.specs.Print.{printed};
-ghost use Rattle.line.specs.Bounds.{Fits};
-ghost use Rattle.tokens.specs.Listing.{listing};
+ghost use Rattle.line.specs.Fits.{Fits};
 ghost use Rattle.pseudo.specs.Marks.{Indented};
-ghost use Rattle.pseudo.specs.Called.{PlanListed, Accepted, Called, sizesOf};
-ghost use Rattle.pseudo.specs.Draft.{Draft};
+ghost use Rattle.pseudo.specs.Called.{PlanListed, Accepted, Called};
 ghost use Rattle.pseudo.specs.Promise.{listsOf, Promise};
 
 // A listing with its sizes, or the number of the question that got a no.
@@ -38,39 +39,33 @@ pub enum Answer {
     No(u8),
 }
 
-// The listing of a plan from its draft, if the lists have room for it.
-fn list_draft(
+// The listing of a plan by way of its codes, if the lists have room for it: no list but that of the codes is touched before they are asked.
+fn list_coded(
     text: &mut [u8],
     ends: &mut [u32],
     kinds: &mut [u8],
     addresses: &mut [u64],
     marks: &mut [u16],
     lines: &mut [u32],
-    t: &[u8],
-    e: &[u32],
-    k: &[u8],
-    l: &[u32],
-    sizes: Sizes,
-    words: &[u8],
-    isa: &[u8],
+    codes: &mut [u64],
+    tables: &[u8],
     rec: &[u8],
     h: Header,
     rows: &[u8],
     blocks: &[u16],
     range: u16,
-    codes: &[u64],
+    plan: &[u64],
 ) -> Answer
-    requires { ⌜ Tables (now words) (now isa) h (now rec) ⌝ }
+    requires { ⌜ Lent (now codes) (now tables) h (now rec) ⌝ }
     requires { ⌜ now rows ≡ rowBytes ⌝ }
     requires { ⌜ now blocks ≡ blockRows h (now rec) ⌝ }
-    requires { ⌜ Fits (printed h (now rec) range 0 (map lineIn (now codes))) ⌝ }
-    requires { ⌜ Indented (now codes) ⌝ }
-    requires { ⌜ sizes ≡ sizesOf (listing (printed h (now rec) range 0 (map lineIn (now codes)))) (now codes) ⌝ }
-    requires { ⌜ Draft (listing (printed h (now rec) range 0 (map lineIn (now codes)))) (now t) (now e) (now k) (now l) ⌝ }
-    ensures { λ r. ⌜ PlanListed h (now (rec .entry)) range (map lineIn (now (codes .entry)))
+    requires { ⌜ Fits (printed h (now rec) range 0 (map lineIn (now plan))) ⌝ }
+    requires { ⌜ Indented (now plan) ⌝ }
+    ensures { λ r. ⌜ PlanListed h (now (rec .entry)) range (map lineIn (now (plan .entry)))
         (now (text .entry)) (now (text .exit)) (now (ends .entry)) (now (ends .exit)) (now (kinds .entry)) (now (kinds .exit))
         (now (addresses .entry)) (now (addresses .exit)) (now (marks .entry)) (now (marks .exit)) (now (lines .entry)) (now (lines .exit)) r ⌝ }
 {
+    let sizes = code_plan(codes, tables, rec, h, rows, blocks, range, plan);
     let rooms = Rooms {
         text: text.len(),
         ends: ends.len(),
@@ -83,85 +78,26 @@ fn list_draft(
     if no != 0 {
         return Answer::No(no);
     }
-    put_lines(
+    write_plan(
         text,
         ends,
         kinds,
         lines,
-        t,
-        e,
-        k,
-        l,
-        sizes,
-        words,
-        isa,
+        codes,
+        tables,
         rec,
         h,
         rows,
         blocks,
         range,
-        codes,
+        plan,
     );
-    put_addresses(addresses, rec, h, codes);
-    put_marks(marks, codes);
+    put_addresses(addresses, rec, h, plan);
+    put_marks(marks, plan);
     Answer::Listed(sizes)
 }
 
-// The listing of a plan by way of a draft on four lists, printed before any other list is touched.
-fn list_by_draft(
-    text: &mut [u8],
-    ends: &mut [u32],
-    kinds: &mut [u8],
-    addresses: &mut [u64],
-    marks: &mut [u16],
-    lines: &mut [u32],
-    t: &mut [u8],
-    e: &mut [u32],
-    k: &mut [u8],
-    l: &mut [u32],
-    words: &[u8],
-    isa: &[u8],
-    rec: &[u8],
-    h: Header,
-    rows: &[u8],
-    blocks: &[u16],
-    range: u16,
-    codes: &[u64],
-) -> Answer
-    requires { ⌜ Tables (now words) (now isa) h (now rec) ⌝ }
-    requires { ⌜ now rows ≡ rowBytes ⌝ }
-    requires { ⌜ now blocks ≡ blockRows h (now rec) ⌝ }
-    requires { ⌜ Fits (printed h (now rec) range 0 (map lineIn (now codes))) ⌝ }
-    requires { ⌜ Indented (now codes) ⌝ }
-    ensures { λ r. ⌜ PlanListed h (now (rec .entry)) range (map lineIn (now (codes .entry)))
-        (now (text .entry)) (now (text .exit)) (now (ends .entry)) (now (ends .exit)) (now (kinds .entry)) (now (kinds .exit))
-        (now (addresses .entry)) (now (addresses .exit)) (now (marks .entry)) (now (marks .exit)) (now (lines .entry)) (now (lines .exit)) r ⌝ }
-{
-    let sizes = draft_plan(t, e, k, l, words, isa, rec, h, rows, blocks, range, codes);
-    list_draft(
-        text,
-        ends,
-        kinds,
-        addresses,
-        marks,
-        lines,
-        t,
-        e,
-        k,
-        l,
-        sizes,
-        words,
-        isa,
-        rec,
-        h,
-        rows,
-        blocks,
-        range,
-        codes,
-    )
-}
-
-// The listing of a plan. The draft has room for most listings of as many lines; a shorter one costs less to make.
+// The listing of a plan. The list of codes has room for most listings of so many lines; a shorter one costs less to make.
 fn list_plan(
     text: &mut [u8],
     ends: &mut [u32],
@@ -169,86 +105,90 @@ fn list_plan(
     addresses: &mut [u64],
     marks: &mut [u16],
     lines: &mut [u32],
-    words: &[u8],
-    isa: &[u8],
+    tables: &[u8],
     rec: &[u8],
     h: Header,
     rows: &[u8],
     blocks: &[u16],
     range: u16,
-    codes: &[u64],
+    plan: &[u64],
 ) -> Answer
-    requires { ⌜ Tables (now words) (now isa) h (now rec) ⌝ }
+    requires { ⌜ (now tables ≡ tableBytes) × Rising h (now rec) ⌝ }
     requires { ⌜ now rows ≡ rowBytes ⌝ }
     requires { ⌜ now blocks ≡ blockRows h (now rec) ⌝ }
-    requires { ⌜ Fits (printed h (now rec) range 0 (map lineIn (now codes))) ⌝ }
-    requires { ⌜ Indented (now codes) ⌝ }
-    ensures { λ r. ⌜ PlanListed h (now (rec .entry)) range (map lineIn (now (codes .entry)))
+    requires { ⌜ Fits (printed h (now rec) range 0 (map lineIn (now plan))) ⌝ }
+    requires { ⌜ Indented (now plan) ⌝ }
+    ensures { λ r. ⌜ PlanListed h (now (rec .entry)) range (map lineIn (now (plan .entry)))
         (now (text .entry)) (now (text .exit)) (now (ends .entry)) (now (ends .exit)) (now (kinds .entry)) (now (kinds .exit))
         (now (addresses .entry)) (now (addresses .exit)) (now (marks .entry)) (now (marks .exit)) (now (lines .entry)) (now (lines .exit)) r ⌝ }
 {
-    if codes.len() <= 256 {
-        let mut t = [0u8; 7000];
-        let mut e = [0u32; 2000];
-        let mut k = [0u8; 2000];
-        let mut l = [0u32; 256];
-        return list_by_draft(
+    if plan.len() <= 200 {
+        let mut codes = [0u64; 1536];
+        return list_coded(
             text,
             ends,
             kinds,
             addresses,
             marks,
             lines,
-            &mut t,
-            &mut e,
-            &mut k,
-            &mut l,
-            words,
-            isa,
+            &mut codes,
+            tables,
             rec,
             h,
             rows,
             blocks,
             range,
-            codes,
+            plan,
         );
     }
-    let mut t = [0u8; 15600];
-    let mut e = [0u32; 3600];
-    let mut k = [0u8; 3600];
-    let mut l = [0u32; 900];
-    list_by_draft(
+    if plan.len() <= 288 {
+        let mut codes = [0u64; 2048];
+        return list_coded(
+            text,
+            ends,
+            kinds,
+            addresses,
+            marks,
+            lines,
+            &mut codes,
+            tables,
+            rec,
+            h,
+            rows,
+            blocks,
+            range,
+            plan,
+        );
+    }
+    let mut codes = [0u64; 4096];
+    list_coded(
         text,
         ends,
         kinds,
         addresses,
         marks,
         lines,
-        &mut t,
-        &mut e,
-        &mut k,
-        &mut l,
-        words,
-        isa,
+        &mut codes,
+        tables,
         rec,
         h,
         rows,
         blocks,
         range,
-        codes,
+        plan,
     )
 }
 
-// The listing of a range of an accepted record, from the tables and the blocks' rows.
-fn list_range(
+// The listing of a range of an accepted record, from the tables and the blocks' rows; the plan is made in a lent list.
+fn list_planned(
     text: &mut [u8],
     ends: &mut [u32],
     kinds: &mut [u8],
     addresses: &mut [u64],
     marks: &mut [u16],
     lines: &mut [u32],
-    words: &[u8],
-    isa: &[u8],
+    made: &mut [u64],
+    tables: &[u8],
     rec: &[u8],
     h: Header,
     rows: &[u8],
@@ -256,17 +196,17 @@ fn list_range(
     from: u16,
     to: u16,
 ) -> Answer
-    requires { ⌜ Tables (now words) (now isa) h (now rec) ⌝ }
+    requires { ⌜ (now tables ≡ tableBytes) × Rising h (now rec) ⌝ }
     requires { ⌜ now rows ≡ rowBytes ⌝ }
     requires { ⌜ now blocks ≡ blockRows h (now rec) ⌝ }
     requires { ⌜ Accepted (now rec) from to h ⌝ }
+    requires { ⌜ h .instructions + 2 * h .blocks ≤ length (now made) ⌝ }
     ensures { λ r. ⌜ Called (now (rec .entry)) from to
         (now (text .entry)) (now (text .exit)) (now (ends .entry)) (now (ends .exit)) (now (kinds .entry)) (now (kinds .exit))
         (now (addresses .entry)) (now (addresses .exit)) (now (marks .entry)) (now (marks .exit)) (now (lines .entry)) (now (lines .exit)) r ⌝ }
 {
-    let mut plan = [0u64; 900];
-    let n = plan_record(isa, rec, h, blocks, from, to, &mut plan);
-    let codes = part_u64(&plan, n);
+    let n = plan_record(isa_of(tables), rec, h, blocks, from, to, made);
+    let plan = part_u64(made, n);
     let range = u16_in(blocks, 8 * size(from));
     list_plan(
         text,
@@ -275,18 +215,64 @@ fn list_range(
         addresses,
         marks,
         lines,
-        words,
-        isa,
+        tables,
         rec,
         h,
         rows,
         blocks,
         range,
-        codes,
+        plan,
     )
 }
 
-// The listing of a range of an accepted record.
+// The same, with the tables and the blocks' rows made: lists are lent for the rows and the plan.
+fn list_range(
+    text: &mut [u8],
+    ends: &mut [u32],
+    kinds: &mut [u8],
+    addresses: &mut [u64],
+    marks: &mut [u16],
+    lines: &mut [u32],
+    block: &mut [u16],
+    made: &mut [u64],
+    rec: &[u8],
+    h: Header,
+    from: u16,
+    to: u16,
+) -> Answer
+    requires { ⌜ Accepted (now rec) from to h ⌝ }
+    requires { ⌜ 8 * h .blocks ≤ length (now block) ⌝ }
+    requires { ⌜ h .instructions + 2 * h .blocks ≤ length (now made) ⌝ }
+    ensures { λ r. ⌜ Called (now (rec .entry)) from to
+        (now (text .entry)) (now (text .exit)) (now (ends .entry)) (now (ends .exit)) (now (kinds .entry)) (now (kinds .exit))
+        (now (addresses .entry)) (now (addresses .exit)) (now (marks .entry)) (now (marks .exit)) (now (lines .entry)) (now (lines .exit)) r ⌝ }
+{
+    let table = tables();
+    let tables: &[u8] = &table;
+    let row = row_table();
+    let rows: &[u8] = &row;
+    block_rows(rec, h, block);
+    let blocks = part_u16(block, 8 * size(h.blocks));
+    list_planned(
+        text,
+        ends,
+        kinds,
+        addresses,
+        marks,
+        lines,
+        made,
+        tables,
+        rec,
+        h,
+        rows,
+        blocks,
+        from,
+        to,
+    )
+}
+
+// The listing of a range of an accepted record. Lists for the rows and the plan are as long as the record asks for: a shorter one costs less
+// to make.
 fn list_accepted(
     text: &mut [u8],
     ends: &mut [u32],
@@ -304,15 +290,26 @@ fn list_accepted(
         (now (text .entry)) (now (text .exit)) (now (ends .entry)) (now (ends .exit)) (now (kinds .entry)) (now (kinds .exit))
         (now (addresses .entry)) (now (addresses .exit)) (now (marks .entry)) (now (marks .exit)) (now (lines .entry)) (now (lines .exit)) r ⌝ }
 {
-    let word = word_table();
-    let words: &[u8] = &word;
-    let made = isa();
-    let isa: &[u8] = &made;
-    let row = row_table();
-    let rows: &[u8] = &row;
+    if (h.instructions <= 288) & (h.blocks <= 60) {
+        let mut block = [0u16; 480];
+        let mut made = [0u64; 408];
+        return list_range(
+            text,
+            ends,
+            kinds,
+            addresses,
+            marks,
+            lines,
+            &mut block,
+            &mut made,
+            rec,
+            h,
+            from,
+            to,
+        );
+    }
     let mut block = [0u16; 1600];
-    block_rows(rec, h, &mut block);
-    let blocks = part_u16(&block, 8 * size(h.blocks));
+    let mut made = [0u64; 900];
     list_range(
         text,
         ends,
@@ -320,12 +317,10 @@ fn list_accepted(
         addresses,
         marks,
         lines,
-        words,
-        isa,
+        &mut block,
+        &mut made,
         rec,
         h,
-        rows,
-        blocks,
         from,
         to,
     )

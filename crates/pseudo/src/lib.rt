@@ -1,6 +1,7 @@
 // The call: questions, sizes, lists.
 pub mod call;
-pub mod draft;
+pub mod coding;
 pub mod marks;
 pub mod rooms;
 pub mod size;
+pub mod writing;

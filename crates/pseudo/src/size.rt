@@ -1,7 +1,9 @@
 // The call that only sizes a listing.
 use crate::call::Answer;
-use crate::draft::draft_plan;
+use crate::coding::code_plan;
 use crate::rooms::Sizes;
+use codes::tables::isa_of;
+use codes::tables::tables;
 use flow::planned::plan_record;
 use flow::rows::block_rows;
 use line::rows::row_table;
@@ -12,61 +14,42 @@ use record::asked::Asked;
 use record::asked::record;
 use record::header::Header;
 use record::layout::size as wide;
-use tokens::words::word_table;
-use x86::table::isa;
 ghost use mathlib.Core.List.{map};
 ghost use mathlib.Core.Path.{_≡_};
-ghost use Rattle.operand.specs.Tables.{Tables};
+ghost use Rattle.codes.specs.Tables.{tableBytes};
+ghost use Rattle.operand.specs.Lent.{Rising};
 ghost use Rattle.record.specs.Asked.{firstNo};
 ghost use Rattle.flow.specs.Rows.{blockRows};
-ghost use Rattle.line.specs.Bounds.{Fits};
+ghost use Rattle.line.specs.Fits.{Fits};
 ghost use Rattle.line.specs.Codes.{rowBytes};
 ghost use Rattle.line.specs.Lines.{lineIn};
 ghost use Rattle.line.specs.Print.{printed};
 ghost use Rattle.tokens.specs.Listing.{listing};
 ghost use Rattle.pseudo.specs.Called.{Accepted, sizesOf, sizes, answerFor};
 
-// How much a plan's lines have: a draft on lists with no room to speak of tells.
+// How much a plan's lines have: their codes tell, in a list with room for none of them.
 fn size_plan(
-    words: &[u8],
-    isa: &[u8],
+    tables: &[u8],
     rec: &[u8],
     h: Header,
     rows: &[u8],
     blocks: &[u16],
     range: u16,
-    codes: &[u64],
+    plan: &[u64],
 ) -> Sizes
-    requires { ⌜ Tables (now words) (now isa) h (now rec) ⌝ }
+    requires { ⌜ (now tables ≡ tableBytes) × Rising h (now rec) ⌝ }
     requires { ⌜ now rows ≡ rowBytes ⌝ }
     requires { ⌜ now blocks ≡ blockRows h (now rec) ⌝ }
-    requires { ⌜ Fits (printed h (now rec) range 0 (map lineIn (now codes))) ⌝ }
-    ensures { λ r. ⌜ r ≡ sizesOf (listing (printed h (now (rec .entry)) range 0 (map lineIn (now (codes .entry))))) (now (codes .entry)) ⌝ }
+    requires { ⌜ Fits (printed h (now rec) range 0 (map lineIn (now plan))) ⌝ }
+    ensures { λ r. ⌜ r ≡ sizesOf (listing (printed h (now (rec .entry)) range 0 (map lineIn (now (plan .entry))))) (now (plan .entry)) ⌝ }
 {
-    let mut t = [0u8; 1];
-    let mut e = [0u32; 1];
-    let mut k = [0u8; 1];
-    let mut l = [0u32; 1];
-    draft_plan(
-        &mut t,
-        &mut e,
-        &mut k,
-        &mut l,
-        words,
-        isa,
-        rec,
-        h,
-        rows,
-        blocks,
-        range,
-        codes,
-    )
+    let mut codes = [0u64; 5];
+    code_plan(&mut codes, tables, rec, h, rows, blocks, range, plan)
 }
 
 // How much the listing of a range of an accepted record has, from the tables and the blocks' rows.
 fn size_range(
-    words: &[u8],
-    isa: &[u8],
+    tables: &[u8],
     rec: &[u8],
     h: Header,
     rows: &[u8],
@@ -74,33 +57,31 @@ fn size_range(
     from: u16,
     to: u16,
 ) -> Sizes
-    requires { ⌜ Tables (now words) (now isa) h (now rec) ⌝ }
+    requires { ⌜ (now tables ≡ tableBytes) × Rising h (now rec) ⌝ }
     requires { ⌜ now rows ≡ rowBytes ⌝ }
     requires { ⌜ now blocks ≡ blockRows h (now rec) ⌝ }
     requires { ⌜ Accepted (now rec) from to h ⌝ }
     ensures { λ r. ⌜ r ≡ sizes (now (rec .entry)) from to ⌝ }
 {
-    let mut plan = [0u64; 900];
-    let n = plan_record(isa, rec, h, blocks, from, to, &mut plan);
-    let codes = part_u64(&plan, n);
+    let mut made = [0u64; 900];
+    let n = plan_record(isa_of(tables), rec, h, blocks, from, to, &mut made);
+    let plan = part_u64(&made, n);
     let range = u16_in(blocks, 8 * wide(from));
-    size_plan(words, isa, rec, h, rows, blocks, range, codes)
+    size_plan(tables, rec, h, rows, blocks, range, plan)
 }
 
 fn size_accepted(rec: &[u8], h: Header, from: u16, to: u16) -> Sizes
     requires { ⌜ Accepted (now rec) from to h ⌝ }
     ensures { λ r. ⌜ r ≡ sizes (now (rec .entry)) from to ⌝ }
 {
-    let word = word_table();
-    let words: &[u8] = &word;
-    let made = isa();
-    let isa: &[u8] = &made;
+    let made = tables();
+    let tables: &[u8] = &made;
     let row = row_table();
     let rows: &[u8] = &row;
     let mut block = [0u16; 1600];
     block_rows(rec, h, &mut block);
     let blocks = part_u16(&block, 8 * wide(h.blocks));
-    size_range(words, isa, rec, h, rows, blocks, from, to)
+    size_range(tables, rec, h, rows, blocks, from, to)
 }
 
 // The sizes of the listing of the blocks from `from` up to `to`, or the number of the first question before 12 that gets a no.

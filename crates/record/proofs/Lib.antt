@@ -4,3 +4,4 @@ pub mod AskedLaws
 pub mod SearchLaws
 pub mod Rising
 pub mod Halving
+pub mod Zeros

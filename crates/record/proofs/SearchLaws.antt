@@ -1,7 +1,7 @@
--- The first number that is x, by what is known of all and as a loop asks it; the last that passes a test, as a loop that goes down asks it.
+-- The first number that is x, by what is known of all and as a loop asks it, and that there is none; the last that passes a test, as a loop that goes down asks it.
 -- Each is the definition at one number, or an induction over those that are left.
-use mathlib.Core.Path.{_≡_, refl, ap, _∙_}
-use mathlib.Core.Bool.{Bool}
+use mathlib.Core.Path.{_≡_, refl, sym, ap, _∙_}
+use mathlib.Core.Bool.{Bool, true, false, not, _&&_, and-true, and-assoc}
 use mathlib.Core.List.{List}
 use Prim.Native.Nat.{ℕ, zero, suc, _+_, _-_, _<_, _≤_}
 use native.Mathlib.Decide.{ℕ-discrete}
@@ -9,9 +9,18 @@ use native.Mathlib.Numerals.{add-one}
 use native.Mathlib.Omega.{arith}
 use lib.Dec.{eqb}
 use borrow.Author.Tests.{eq-eqb, ne-eqb}
-use Rattle.lists.specs.Choice.{pick}
+use Rattle.lists.specs.Choice.{pick, allBelow}
 use Rattle.record.specs.Search.{numberAt, findFrom, lastFrom}
+use Rattle.record.specs.declared.search.Found.{Found}
 use Rattle.record.specs.declared.search.Found.the-variants.{At, Nothing}
+
+abbrev pub none : Found → Bool
+none Nothing = true
+none (At k) = false
+
+none-pick : (b : Bool) (k : ℕ) (f : Found) → none (pick b (At k) f) ≡ (not b && none f)
+none-pick true k f = refl
+none-pick false k f = refl
 
 module _ (numbers : List ℕ) (x : ℕ) where
   -- none of n numbers from k on
@@ -29,6 +38,33 @@ module _ (numbers : List ℕ) (x : ℕ) where
         | yes q ↦ rw (q, eq-eqb (numberAt numbers m) x e)
         | no q ↦ rw (ne-eqb (numberAt numbers k) x (h k (omega arith))) (find-first (suc k) n m (omega arith) (omega arith) h e)
       ]
+
+  -- nothing is found where each of the numbers differs
+  none-first : (k n : ℕ) → none (findFrom numbers x k (suc n)) ≡ (not (eqb (numberAt numbers k) x) && none (findFrom numbers x (suc k) n))
+  unfolding findFrom
+  none-first k n = none-pick (eqb (numberAt numbers k) x) k (findFrom numbers x (suc k) n)
+
+  none-last : (k n : ℕ) → none (findFrom numbers x k (suc n)) ≡ (none (findFrom numbers x k n) && not (eqb (numberAt numbers (k + n)) x))
+  unfolding findFrom
+  none-last k zero =
+      let e : k ≡ k + 0 = omega arith in
+      none-first k 0 ∙ and-true (not (eqb (numberAt numbers k) x)) ∙ ap (λ (j : ℕ). not (eqb (numberAt numbers j) x)) e
+  none-last k (suc n) =
+      let e : suc k + n ≡ k + suc n = omega arith in
+      none-first k (suc n)
+      ∙ ap (λ (b : Bool). not (eqb (numberAt numbers k) x) && b) (none-last (suc k) n)
+      ∙ sym (and-assoc (not (eqb (numberAt numbers k) x)) (none (findFrom numbers x (suc k) n)) (not (eqb (numberAt numbers (suc k + n)) x)))
+      ∙ ap (λ (b : Bool). b && not (eqb (numberAt numbers (suc k + n)) x)) (sym (none-first k n))
+      ∙ ap (λ (j : ℕ). none (findFrom numbers x k (suc n)) && not (eqb (numberAt numbers j) x)) e
+
+  pub none-all : (n : ℕ) → none (findFrom numbers x 0 n) ≡ allBelow (λ j. not (eqb (numberAt numbers j) x)) n
+  unfolding findFrom
+  none-all zero = refl
+  none-all (suc n) =
+      let e : 0 + n ≡ n = omega arith in
+      none-last 0 n
+      ∙ ap (λ (j : ℕ). none (findFrom numbers x 0 n) && not (eqb (numberAt numbers j) x)) e
+      ∙ ap (λ (b : Bool). b && not (eqb (numberAt numbers n) x)) (none-all n)
 
   -- those from k on, of n
   pub find-all : (n : ℕ) → findFrom numbers x 0 (n - 0) ≡ findFrom numbers x 0 n

@@ -1,5 +1,7 @@
 // Blocks and edges: readers over the part of the record that begins at their array, and questions 5 to 7.
 // An address and a place in the listing order are different types, each with tests of its own, so that they cannot be compared.
+use crate::search::Found;
+use crate::search::first_of;
 use lists::reads::u8_at;
 use lists::reads::u16_at;
 use lists::reads::u64_at;
@@ -100,14 +102,11 @@ fn start_is_new(starts: &[u8], k: u16) -> bool
     ensures { λ r. ⌜ r ≡ startIsNew (now (starts .entry)) k ⌝ }
 {
     let x = start_at(starts, Place(k));
-    let mut j: u16 = 0;
-    while j < k {
-        if same_address(start_at(starts, Place(j)), x) {
-            return false;
-        }
-        j += 1;
+    let found = first_of(starts, k, x.0);
+    match found {
+        Found::At(_) => false,
+        Found::Nothing => true,
     }
-    true
 }
 
 // Whether each block starts above the one before it; `before` is that one's start, at first block 0's.

@@ -1,13 +1,18 @@
 // An instruction's body: readers over the part of the record that begins at it, and question 8.
 use lists::reads::from;
+use lists::reads::plain_u8;
+use lists::reads::plain_u64;
 use lists::reads::u8_at;
 use lists::reads::u16_at;
 use lists::reads::u64_at;
+use x86::registers::missing_table;
+use x86::registers::register_known;
 use x86::registers::register_named;
 use x86::table::register_table;
 ghost use mathlib.Core.Path.{_≡_};
-ghost use Prim.Native.Nat.{_-_, _*_, _<_};
-ghost use Rattle.x86.specs.Table.{registerTable};
+ghost use Prim.Native.Nat.{_-_, _*_, _<_, _≤_};
+ghost use lib.ListN.{length};
+ghost use Rattle.x86.specs.Table.{registerTable, missingTable};
 ghost use Rattle.record.specs.Body.{addressAt, bodyAt, mnemonicOf, conditionOf, operandCount, skipMark, segmentOf, baseOf, indexOf, scaleOf, memorySize, memoryAddress, operandKind, registerByte, operandRegister, operandNumber, nameByte, conditionOk, scaleOk, operandOk, fixedOk, isName, isZeros, operandsOk, bodyOk, bodiesOk};
 
 pub fn address_at(addresses: &[u8], i: u16) -> u64
@@ -196,10 +201,103 @@ fn body_ok(registers: &[u8], body: &[u8]) -> bool
     fixed & is_zeros(name)
 }
 
+// The same of a body that is there: no test of the length stands between the reads.
+fn plain_fixed_ok(missing: &[u8], body: &[u8]) -> bool
+    requires table { ⌜ now missing ≡ missingTable ⌝ }
+    requires there { ⌜ 92 ≤ length (now body) ⌝ }
+    ensures { λ r. ⌜ r ≡ fixedOk (now (body .entry)) ⌝ }
+{
+    condition_ok(plain_u8(body, 0), plain_u8(body, 1))
+        & (plain_u8(body, 2) <= 5)
+        & (plain_u8(body, 3) <= 1)
+        & register_known(missing, plain_u8(body, 4))
+        & register_known(missing, plain_u8(body, 5))
+        & register_known(missing, plain_u8(body, 6))
+        & scale_ok(plain_u8(body, 7))
+}
+
+fn plain_operand_ok(missing: &[u8], body: &[u8], i: usize) -> bool
+    requires table { ⌜ now missing ≡ missingTable ⌝ }
+    requires there { ⌜ (i < 5) × (92 ≤ length (now body)) ⌝ }
+    ensures { λ r. ⌜ r ≡ operandOk (now (body .entry)) i ⌝ }
+{
+    (plain_u8(body, 18 + 10 * i) <= 11) & register_known(missing, plain_u8(body, 18 + 10 * i + 1))
+}
+
+fn plain_operands_ok(missing: &[u8], body: &[u8]) -> bool
+    requires table { ⌜ now missing ≡ missingTable ⌝ }
+    requires there { ⌜ 92 ≤ length (now body) ⌝ }
+    ensures { λ r. ⌜ r ≡ operandsOk (now (body .entry)) ⌝ }
+{
+    plain_operand_ok(missing, body, 0)
+        & plain_operand_ok(missing, body, 1)
+        & plain_operand_ok(missing, body, 2)
+        & plain_operand_ok(missing, body, 3)
+        & plain_operand_ok(missing, body, 4)
+}
+
+fn plain_name(name: &[u8]) -> bool
+    requires { ⌜ 24 ≤ length (now name) ⌝ }
+    ensures { λ r. ⌜ r ≡ isName (now (name .entry)) ⌝ }
+{
+    let first = plain_u8(name, 0);
+    let mut before = first;
+    let mut ok = true;
+    let mut k: usize = 0;
+    while k < 23 {
+        let c = plain_u8(name, k + 1);
+        ok = ok & ((c == 0) | (name_byte(c) & (before != 0)));
+        before = c;
+        k += 1;
+    }
+    name_byte(first) & ok
+}
+
+fn plain_zeros(name: &[u8]) -> bool
+    requires { ⌜ 24 ≤ length (now name) ⌝ }
+    ensures { λ r. ⌜ r ≡ isZeros (now (name .entry)) ⌝ }
+{
+    (plain_u64(name, 0) == 0) & (plain_u64(name, 8) == 0) & (plain_u64(name, 16) == 0)
+}
+
+fn plain_body_ok(missing: &[u8], body: &[u8]) -> bool
+    requires table { ⌜ now missing ≡ missingTable ⌝ }
+    requires there { ⌜ 92 ≤ length (now body) ⌝ }
+    ensures { λ r. ⌜ r ≡ bodyOk (now (body .entry)) ⌝ }
+{
+    if plain_fixed_ok(missing, body) & plain_operands_ok(missing, body) {
+        let name = from(body, 68);
+        if plain_u8(body, 0) == 0 {
+            return plain_name(name);
+        }
+        return plain_zeros(name);
+    }
+    false
+}
+
+fn plain_bodies_ok(bodies: &[u8], instructions: u16) -> bool
+    requires { ⌜ 92 * instructions ≤ length (now bodies) ⌝ }
+    ensures { λ r. ⌜ r ≡ bodiesOk (now (bodies .entry)) instructions ⌝ }
+{
+    let table = missing_table();
+    let missing: &[u8] = &table;
+    let mut i: u16 = 0;
+    while i < instructions {
+        if !plain_body_ok(missing, body_at(bodies, i)) {
+            return false;
+        }
+        i += 1;
+    }
+    true
+}
+
 // Question 8, of the instructions.
 pub fn bodies_ok(bodies: &[u8], instructions: u16) -> bool
     ensures { λ r. ⌜ r ≡ bodiesOk (now (bodies .entry)) instructions ⌝ }
 {
+    if 92 * instructions as usize <= bodies.len() {
+        return plain_bodies_ok(bodies, instructions);
+    }
     let table = register_table();
     let registers: &[u8] = &table;
     let mut ok = true;

@@ -8,20 +8,20 @@ use Prim.Native.Nat.{ℕ, suc, _+_, _-_, _≤_, _<_}
 use native.Mathlib.Numerals.{add-one}
 use native.Mathlib.Nat.{add-zero, zero-add}
 use native.Mathlib.Omega.{arith}
-use lib.Dec.{eqb}
 use lib.ListN.{length, length-append}
 use lib.Seq.{set-set}
-use borrow.Author.Tests.{eqb-true}
 use Rattle.lists.specs.Choice.{pick}
 use Rattle.lists.specs.Put.{put}
 use Rattle.lists.specs.PutLaws.{put-append, put-none, put-cons}
 use Rattle.tokens.specs.Token.{Token}
 use Rattle.tokens.specs.Listing.{textOf, endsFrom, kindsOf, glued, glue, run, join, all, countsFrom, listing, bytesOf}
-use Rattle.tokens.specs.ListingLaws.{text-append, ends-append, kinds-append, ends-length, kinds-length, glued-kind, run-glued, run-apart, run-last, cases, all-bytes, lines-length}
+use Rattle.tokens.proofs.ListingLaws.{text-append, ends-append, kinds-append, ends-length, kinds-length, glued-kind, run-glued, run-apart, cases, all-bytes, lines-length}
 use Rattle.codes.specs.Code.{Event, decode}
 use Rattle.codes.specs.Code.Event.{tok, end}
 use Rattle.codes.specs.Coded.{joinsLast, fresh, marked}
-use Rattle.writer.specs.Written.{Page, page, start, behind, written, onPage, Room, ofLines, Listed, Ready}
+use Rattle.codes.specs.Lines.{ofLines}
+use Rattle.codes.proofs.LineFresh.{first-apart, join-fresh}
+use Rattle.writer.specs.Written.{Page, page, start, behind, written, onPage, Room, Listed, Ready}
 use Rattle.writer.specs.declared.write.Cursor.{Cursor}
 
 -- what a page P has become, P′: the tokens ts and the line ends ns more
@@ -126,16 +126,12 @@ run-wrote P t (u ∷ us) =
     (λ h. rw (marked-cons (t .kind) false u us h, run-apart t u us h) (wrote-more P Q (onPage (written Q (tok false u)) (marked (u .kind) us)) (t ∷ []) (run u us) [] [] (wrote-one P t) (run-wrote Q u us)))
     (cases (glued t u))
 
--- no token joins what is before a line
-first-apart : (k : ℕ) → joinsLast 255 k ≡ false
-first-apart k = ⊎-elim (λ h. rw (eqb-true k 255 h)) (λ h. rw h) (cases (eqb k 255))
-
 line-wrote : (P : Page) (ts : List Token) → Wrote P (onPage P (marked 255 ts)) (join ts) []
 unfolding onPage marked join
 line-wrote P [] = wrote-none P
 line-wrote P (t ∷ ts) = rw (marked-cons 255 false t ts (first-apart (t .kind))) (run-wrote P t ts)
 
-page-append : (P : Page) (a b : List Event) → onPage P (a ++ b) ≡ onPage (onPage P a) b
+pub page-append : (P : Page) (a b : List Event) → onPage P (a ++ b) ≡ onPage (onPage P a) b
 unfolding onPage
 page-append P [] b = refl
 page-append P (e ∷ a) b = page-append (written P e) a b
@@ -164,28 +160,6 @@ listed ls x e k l =
       next = w .next ∙ zero-add _;
     }
 
--- a line's tokens as they are counted while they are coded
-fresh-cons : (k : ℕ) (j : Bool) (u : Token) (us : List Token) → joinsLast k (u .kind) ≡ j → fresh k (u ∷ us) ≡ pick j 0 1 + fresh (u .kind) us
-unfolding fresh
-fresh-cons k j u us h = rw h
-
-fresh-none : (k : ℕ) → fresh k [] ≡ 0
-unfolding fresh
-fresh-none k = refl
-
-run-fresh : (t : Token) (ts : List Token) → length (run t ts) ≡ suc (fresh (t .kind) ts)
-run-fresh t [] = rw (run-last t, fresh-none (t .kind))
-run-fresh t (u ∷ us) =
-    ⊎-elim
-    (λ h. rw (run-glued t u us h, run-fresh (glue t u) us, fresh-cons (t .kind) true u us h, glued-kind t u h) (omega arith))
-    (λ h. rw (run-apart t u us h, run-fresh u us, fresh-cons (t .kind) false u us h) (omega arith))
-    (cases (glued t u))
-
-pub join-fresh : (ts : List Token) → length (join ts) ≡ fresh 255 ts
-unfolding join
-join-fresh [] = sym (fresh-none 255)
-join-fresh (t ∷ ts) = rw (fresh-cons 255 false t ts (first-apart (t .kind)), run-fresh t ts) (omega arith)
-
 one-at-most : (j : Bool) → pick j 1 0 ≤ 1
 one-at-most true = omega arith
 one-at-most false = omega arith
@@ -200,8 +174,8 @@ module _ (x e k l : ℕ) where
       → p .text + length (t .bytes) ≤ x → p .text + length (t .bytes) < 4294967296 → n ≤ e → n ≤ k
       → Room x e k l (record { text = p .text + length (t .bytes); tokens = n; lines = p .lines }) es → Room x e k l p (tok j t ∷ es)
   unfolding behind
-  room-one true t es p n a h b c d f r = let z : suc (p .tokens - 1) ≡ n = omega arith in ((b, c, omega arith, omega arith), rw z r)
-  room-one false t es p n a h b c d f r = let z : suc (p .tokens) ≡ n = omega arith in ((b, c, omega arith, omega arith), rw z r)
+  room-one true t es p n a h b c d f r = let z : suc (p .tokens - 1) ≡ n = omega arith in ((b, c, omega arith, omega arith, a), rw z r)
+  room-one false t es p n a h b c d f r = let z : suc (p .tokens) ≡ n = omega arith in ((b, c, omega arith, omega arith, a), rw z r)
 
   -- the tokens of a line, with X bytes and T tokens behind them
   room-marked : (last : ℕ) (ts : List Token) (es : List Event) (p : Cursor) (X T : ℕ) → ((i : ℕ) → pick (joinsLast last i) 1 0 ≤ p .tokens)

@@ -1,16 +1,18 @@
 -- What a code is on the page: the room that it needs, and what its writer leaves.
 -- Each is the definition at the event that the code stands for.
-use mathlib.Core.Path.{_≡_, refl, ap, _∙_}
-use mathlib.Core.List.{List}
+use mathlib.Core.Path.{_≡_, refl, sym, ap, _∙_}
+use mathlib.Core.List.{List, []}
 use Prim.Native.Nat.{ℕ, _+_, _≤_, _<_}
 use native.Mathlib.Numerals.{add-one}
+use native.Mathlib.Omega.{arith}
 use lib.ListN.{length, set, getD, drop, drop-of-length-le}
 use Rattle.lists.specs.Choice.{pick}
 use Rattle.lists.specs.Put.{put}
 use Rattle.tokens.specs.Token.{token}
-use Rattle.codes.specs.Code.{Event, kindIn, joinsIn, whatIn, hasValue, textIn, event, decode}
+use Rattle.codes.specs.Code.{Event, kindIn, joinsIn, whatIn, ofTable, hasValue, textIn, event, decode}
 use Rattle.codes.specs.Code.Event.{tok, end}
 use Rattle.codes.proofs.Decoded.{event-token, event-end, decode-at}
+use Rattle.codes.proofs.Made.{text-table}
 use Rattle.writer.specs.Written.{Page, page, placeFor, behind, written, onPage, Fits, Room}
 use Rattle.writer.specs.declared.write.Cursor.{Cursor}
 
@@ -20,13 +22,14 @@ pub record TokenFits (t s : List ℕ) (c v : ℕ) (x e k : List ℕ) (p : Cursor
   pub small : p .text + length (textIn t s c v) < 4294967296
   pub end : placeFor (joinsIn c) (p .tokens) < length e
   pub kind : placeFor (joinsIn c) (p .tokens) < length k
+  pub before : pick (joinsIn c) 1 0 ≤ p .tokens
 
 module _ (t s : List ℕ) (c v : ℕ) where
   module _ (x e k : List ℕ) (p : Cursor) where
     pub token-fits : whatIn c < 7 → Fits (length x) (length e) (length k) 0 p (event t s c v) → TokenFits t s c v x e k p
     token-fits h f =
         let g = rw (event-token t s c v h) at f in
-        record { text = g .0; small = g .1; end = g .2; kind = g .3 }
+        record { text = g .0; small = g .1; end = g .2; kind = g .3; before = g .4 }
 
     -- a token needs no room for lines
     pub fits-lines : (l : ℕ) → whatIn c < 7 → Fits (length x) (length e) (length k) l p (event t s c v) → Fits (length x) (length e) (length k) 0 p (event t s c v)
@@ -35,18 +38,35 @@ module _ (t s : List ℕ) (c v : ℕ) where
     pub end-fits : (l : List ℕ) → 7 ≤ whatIn c → Fits (length x) (length e) (length k) (length l) p (event t s c v) → (p .lines < length l) × (p .tokens < 4294967296)
     end-fits l h f = rw (event-end t s c v h) at f
 
-    pub token-written : (x′ : List ℕ) (n at : ℕ) → whatIn c < 7 → n ≡ length (textIn t s c v) → x′ ≡ put (p .text) (textIn t s c v) x
-        → at ≡ placeFor (joinsIn c) (p .tokens) → (l : List ℕ)
-        → page x′ (set e at (p .text + n)) (set k at (kindIn c)) l (record { text = p .text + n; tokens = at + 1; lines = p .lines }) ≡ written (page x e k l p) (event t s c v)
+    pub token-written : (x′ e′ k′ : List ℕ) (q : Cursor) (n : ℕ) → whatIn c < 7 → n ≡ length (textIn t s c v) → x′ ≡ put (p .text) (textIn t s c v) x
+        → e′ ≡ set e (placeFor (joinsIn c) (p .tokens)) (p .text + n) → k′ ≡ set k (placeFor (joinsIn c) (p .tokens)) (kindIn c)
+        → q ≡ record { text = p .text + n; tokens = placeFor (joinsIn c) (p .tokens) + 1; lines = p .lines }
+        → (l : List ℕ) → page x′ e′ k′ l q ≡ written (page x e k l p) (event t s c v)
     unfolding written behind
-    token-written x′ n at h a b d l = rw (event-token t s c v h, a, b, d, add-one)
+    token-written x′ e′ k′ q n h a b d f g l = rw (event-token t s c v h, b, d, f, g, a, add-one)
 
     pub end-written : (l : List ℕ) → 7 ≤ whatIn c
         → page x e k (set l (p .lines) (p .tokens)) (record { text = p .text; tokens = p .tokens; lines = p .lines + 1 }) ≡ written (page x e k l p) (event t s c v)
     unfolding written behind
     end-written l h = rw (event-end t s c v h, add-one)
 
-written-at : (P : Page) (e : Event) → written P e .at ≡ behind (P .at) e
+-- a text of the table is the same whatever the record and the next code
+module _ (t s : List ℕ) (c v : ℕ) (h : whatIn c ≡ ofTable) where
+  word-event : event t [] c 0 ≡ event t s c v
+  word-event =
+      event-token t [] c 0 (omega arith) ∙ ap (λ (x : List ℕ). tok (joinsIn c) (token (kindIn c) x)) (text-table t [] c 0 h ∙ sym (text-table t s c v h))
+      ∙ sym (event-token t s c v (omega arith))
+
+  pub word-fits : (x e k : List ℕ) (p : Cursor) (l : ℕ) → Fits (length x) (length e) (length k) l p (event t s c v) → Fits (length x) (length e) (length k) 0 p (event t [] c 0)
+  word-fits x e k p l f = rw word-event (fits-lines t s c v x e k p l (omega arith) f)
+
+  pub word-written : (P P′ : Page) → P′ ≡ written P (event t [] c 0) → P′ ≡ written P (event t s c v)
+  word-written P P′ w = w ∙ ap (written P) word-event
+
+pub word-width : (c : ℕ) → whatIn c ≡ ofTable → _≡_ {A = ℕ} 1 (pick (hasValue c) 2 1)
+word-width c h = rw h
+
+pub written-at : (P : Page) (e : Event) → written P e .at ≡ behind (P .at) e
 unfolding written
 written-at P (tok joins u) = refl
 written-at P end = refl

@@ -1,7 +1,7 @@
 -- What the writer of codes does: each token's bytes, end and kind stand in their places in the lent lists, and each line's token end.
 use mathlib.Core.Bool.{Bool}
 use mathlib.Core.Path.{_≡_}
-use mathlib.Core.List.{List, [], _∷_, _++_}
+use mathlib.Core.List.{List, [], _∷_}
 use Prim.Native.Nat.{ℕ, suc, _+_, _-_, _≤_, _<_}
 use lib.ListN.{length, set}
 use Rattle.lists.specs.Choice.{pick}
@@ -10,7 +10,7 @@ use Rattle.tokens.specs.Token.{Token}
 use Rattle.tokens.specs.Listing.{listing}
 use Rattle.codes.specs.Code.{Event, decode}
 use Rattle.codes.specs.Code.Event.{tok, end}
-use Rattle.codes.specs.Coded.{marked}
+use Rattle.codes.specs.Lines.{ofLines}
 use Rattle.writer.specs.declared.write.Cursor.{Cursor}
 
 -- the lent lists, and how much of them is written
@@ -53,21 +53,16 @@ unfoldable pub onPage : Page → List Event → Page
 onPage P [] = P
 onPage P (e ∷ es) = onPage (written P e) es
 
--- lists of x bytes, e and k tokens and l lines have room for an event, and ends fit u32
+-- lists of x bytes, e and k tokens and l lines have room for an event, ends fit u32, and a token that goes on has one before it
 abbrev pub Fits : (x e k l : ℕ) → Cursor → Event → Type 0
 Fits x e k l p (tok joins t) =
     (p .text + length (t .bytes) ≤ x) × (p .text + length (t .bytes) < 4294967296)
-    × (placeFor joins (p .tokens) < e) × (placeFor joins (p .tokens) < k)
+    × (placeFor joins (p .tokens) < e) × (placeFor joins (p .tokens) < k) × (pick joins 1 0 ≤ p .tokens)
 Fits x e k l p end = (p .lines < l) × (p .tokens < 4294967296)
 
 abbrev pub Room : (x e k l : ℕ) → Cursor → List Event → Type 0
 Room x e k l p [] = Unit {0}
 Room x e k l p (ev ∷ es) = Fits x e k l p ev × Room x e k l (behind p ev) es
-
--- lines of tokens in codes: each begins anew, and has an end
-unfoldable pub ofLines : List (List Token) → List Event
-ofLines [] = []
-ofLines (l ∷ ls) = marked 255 l ++ end ∷ ofLines ls
 
 -- nothing is written yet
 abbrev pub start : Cursor

@@ -1,2 +1,3 @@
 // The writer of token codes.
+pub mod copy;
 pub mod write;

@@ -1,4 +1,5 @@
 // The writer: each token's bytes are stored once, in the rest of the lent text, and its end and kind beside them.
+use crate::copy::copy_part;
 use codes::read::width;
 use lists::parts::part;
 use lists::reads::u8_at;
@@ -8,13 +9,15 @@ use text::digits::write_num;
 use text::digits::write_prefixed;
 use text::literal::put_literal;
 ghost use mathlib.Core.Path.{_≡_};
-ghost use mathlib.Core.List.{List};
-ghost use Prim.Native.Nat.{ℕ, _≤_, _<_};
-ghost use lib.ListN.{length};
+ghost use mathlib.Core.List.{List, []};
+ghost use Prim.Native.Nat.{ℕ, _+_, _≤_, _<_};
+ghost use lib.ListN.{length, set};
+ghost use Rattle.lists.specs.Choice.{pick};
 ghost use Rattle.lists.specs.Put.{put};
 ghost use Rattle.tokens.specs.Token.{Token};
-ghost use Rattle.codes.specs.Code.{whatIn, textIn, event, decode};
-ghost use Rattle.writer.specs.Written.{page, placeFor, written, onPage, Fits, Room, start, ofLines, Listed, Ready};
+ghost use Rattle.codes.specs.Code.{kindIn, joinsIn, whatIn, ofTable, textIn, event, decode};
+ghost use Rattle.codes.specs.Lines.{ofLines};
+ghost use Rattle.writer.specs.Written.{page, placeFor, written, onPage, Fits, Room, start, Listed, Ready};
 
 // Bytes, tokens and lines written.
 pub struct Cursor {
@@ -50,20 +53,35 @@ fn write_text(out: &mut [u8], tables: &[u8], rec: &[u8], c: u64, v: u64) -> usiz
     put_literal(out, what == 6, part(rec, at, n))
 }
 
-// The place of a token's end and kind.
+// The place of a token's end and kind; one that goes on has a token before it.
 fn place_for(joins: bool, tokens: usize) -> usize
+    requires { ⌜ pick joins 1 0 ≤ tokens ⌝ }
     ensures { λ r. ⌜ r ≡ placeFor joins tokens ⌝ }
 {
-    if joins {
-        if tokens == 0 {
-            return 0;
-        }
-        return tokens - 1;
-    }
-    tokens
+    if joins { tokens - 1 } else { tokens }
 }
 
-// A token: where it goes on with the one before its end and kind take that one's place.
+// The end and the kind of a token with n bytes: where it goes on with the one before they take that one's place.
+fn end_token(ends: &mut [u32], kinds: &mut [u8], p: Cursor, c: u64, n: usize) -> Cursor
+    requires { ⌜ p .text + n < 4294967296 ⌝ }
+    requires { ⌜ (placeFor (joinsIn c) (p .tokens) < length (now ends)) × (placeFor (joinsIn c) (p .tokens) < length (now kinds)) ⌝ }
+    requires { ⌜ pick (joinsIn c) 1 0 ≤ p .tokens ⌝ }
+    ensures lists { λ _. ⌜ (now (ends .exit) ≡ set (now (ends .entry)) (placeFor (joinsIn c) (p .tokens)) (p .text + n))
+        × (now (kinds .exit) ≡ set (now (kinds .entry)) (placeFor (joinsIn c) (p .tokens)) (kindIn c)) ⌝ }
+    ensures cursor { λ r. ⌜ r ≡ record { text = p .text + n; tokens = placeFor (joinsIn c) (p .tokens) + 1; lines = p .lines } ⌝ }
+{
+    let k = place_for(c / 8 % 2 == 1, p.tokens);
+    let end = p.text + n;
+    ends[k] = end as u32;
+    kinds[k] = (c % 8) as u8;
+    Cursor {
+        text: end,
+        tokens: k + 1,
+        lines: p.lines,
+    }
+}
+
+// A token.
 fn write_token(
     text: &mut [u8],
     ends: &mut [u32],
@@ -81,15 +99,31 @@ fn write_token(
 {
     let at = p.text;
     let n = write_text(&mut text[at..], tables, rec, c, v);
-    let k = place_for(c / 8 % 2 == 1, p.tokens);
-    let end = at + n;
-    ends[k] = end as u32;
-    kinds[k] = (c % 8) as u8;
-    Cursor {
-        text: end,
-        tokens: k + 1,
-        lines: p.lines,
-    }
+    end_token(ends, kinds, p, c, n)
+}
+
+// A token whose text is of the table, as that of nearly all is.
+fn write_word(
+    text: &mut [u8],
+    ends: &mut [u32],
+    kinds: &mut [u8],
+    p: Cursor,
+    tables: &[u8],
+    c: u64,
+) -> Cursor
+    requires { ⌜ whatIn c ≡ ofTable ⌝ }
+    requires { ⌜ Fits (length (now text)) (length (now ends)) (length (now kinds)) 0 p (event (now tables) [] c 0) ⌝ }
+    ensures { λ r. ⌜ ((l : List ℕ) → page (now (text .exit)) (now (ends .exit)) (now (kinds .exit)) l r
+        ≡ written (page (now (text .entry)) (now (ends .entry)) (now (kinds .entry)) l p) (event (now (tables .entry)) [] c 0)) ⌝ }
+{
+    let at = p.text;
+    let n = copy_part(
+        &mut text[at..],
+        tables,
+        (c / 16777216) as usize,
+        (c / 256 % 65536) as usize,
+    );
+    end_token(ends, kinds, p, c, n)
 }
 
 // One code with its value.
@@ -139,18 +173,23 @@ pub fn write_codes(
     let mut i = 0;
     while i < codes.len() {
         let c = codes[i];
-        r = write_code(
-            text,
-            ends,
-            kinds,
-            lines,
-            r,
-            tables,
-            rec,
-            c,
-            u64_in(codes, i + 1),
-        );
-        i += width(c);
+        if c / 16 % 16 == 0 {
+            r = write_word(text, ends, kinds, r, tables, c);
+            i += 1;
+        } else {
+            r = write_code(
+                text,
+                ends,
+                kinds,
+                lines,
+                r,
+                tables,
+                rec,
+                c,
+                u64_in(codes, i + 1),
+            );
+            i += width(c);
+        }
     }
     r
 }

@@ -8,12 +8,12 @@ use native.Mathlib.Decide.{decLt}
 use native.Mathlib.Omega.{arith}
 use borrow.Author.Tests.{lt-ltb, le-ltb}
 use lib.Dec.{T, eqb, ltb, eqb→eq}
-use lib.ListN.{getD}
+use lib.ListN.{getD, length}
 use Rattle.lists.specs.Choice.{pick, allBelow}
 use Rattle.x86.specs.Conditions.{conditionNames, conditionName, no-relation, relationAfterCmp, relationAfterTest, relationAfterOther, printsUnsigned, negate}
 use Rattle.x86.specs.Mnemonics.{mnemonicNames, mnemonicName, writesFlags}
 use Rattle.x86.specs.Registers.{registerNames, registerName, registerExists, fullRegister, registerSize}
-use Rattle.x86.specs.Table.{registerTable, mnemonicTable, conditionTable, isaBytes, bit, textAt}
+use Rattle.x86.specs.Table.{registerTable, missingTable, mnemonicTable, conditionTable, isaBytes, bit, textAt}
 use Rattle.x86.specs.Words.{sameWord}
 use Rattle.lists.specs.Every.{both-left, both-right, beq→eq}
 use Rattle.lists.specs.Below.{below-at}
@@ -50,6 +50,18 @@ register-named t e r =
       | yes h ↦ rw (lt-ltb r 160 h, e) (beq→eq _ _ (below-at named 160 tt r h))
       | no h ↦ let g : 160 ≤ r = omega arith in rw (le-ltb r 160 g, not-there r g)
     ]
+
+-- a test of each byte's place in the table of those that no register has
+abbrev known : ℕ → Bool
+known r = Bool·beq (eqb (getD missingTable r 0) 0) (registerExists r)
+
+pub register-known : (t : List ℕ) → t ≡ missingTable → (r : ℕ) → r < 256 → eqb (getD t r 0) 0 ≡ registerExists r
+unfolding missingTable registerExists
+register-known t e r h = rw e (beq→eq _ _ (below-at known 256 tt r h))
+
+pub missing-length : (t : List ℕ) → t ≡ missingTable → length t ≡ 256
+unfolding missingTable registerExists
+missing-length t e = ap length e
 
 -- a test of the text at each number's place
 abbrev spells : (ℕ → ℕ) → (ℕ → List ℕ) → ℕ → Bool

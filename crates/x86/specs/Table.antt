@@ -1,13 +1,13 @@
 -- The table: an entry a number, made from the definitions. "Constant arrays give spelling, full
 -- register, flag effect and conditions by number."
 use Prim.Native.Nat.{ℕ, zero, suc, _+_, _-_}
-use mathlib.Core.Bool.{Bool, true, false}
+use mathlib.Core.Bool.{Bool, true, false, not}
 use mathlib.Core.List.{List, [], _∷_, _++_}
 use lib.ListN.{length, replicate, take, drop}
 use Rattle.lists.specs.Bytes.{u8At}
 use Rattle.x86.specs.Conditions.{relationAfterCmp, relationAfterTest, relationAfterOther, printsUnsigned, negate}
 use Rattle.x86.specs.Mnemonics.{mnemonicName, writesFlags}
-use Rattle.x86.specs.Registers.{registerName, fullRegister, registerSize}
+use Rattle.x86.specs.Registers.{registerExists, registerName, fullRegister, registerSize}
 
 -- a text's length, its bytes, and zeros up to n bytes
 abbrev pub padded : ℕ → List ℕ → List ℕ
@@ -43,6 +43,10 @@ mnemonicTable = entries mnemonicEntry 0 46
 
 unfoldable pub conditionTable : List ℕ
 conditionTable = entries conditionEntry 0 17
+
+-- a byte a number: 1 where no register has it
+unfoldable pub missingTable : List ℕ
+missingTable = entries (λ r. bit (not (registerExists r)) ∷ []) 0 256
 
 -- the registers at 0, the mnemonics at 1280, the conditions at 2016
 unfoldable pub isaBytes : List ℕ

@@ -1,9 +1,9 @@
 // Registers by number: class × 16 + index, 0 for none.
 ghost use mathlib.Core.Path.{_≡_};
-ghost use Rattle.x86.specs.Registers.{classSize, registerExists, registerName, fullRegister, registerSize, isStackPointer, calleeSaved};
-ghost use Rattle.x86.specs.Table.{registerTable, isaBytes};
+ghost use Rattle.x86.specs.Registers.{classSize, registerExists, fullRegister, registerSize, isStackPointer, calleeSaved};
+ghost use Rattle.x86.specs.Table.{registerTable, missingTable, isaBytes};
 use super::table::column;
-use super::table::text_at;
+use lists::reads::plain_u8;
 
 const CLASS_SIZES: [u16; 10] = [0, 16, 4, 16, 16, 16, 2, 6, 16, 16];
 
@@ -24,22 +24,48 @@ pub fn register_exists(r: u16) -> bool
     (r == 0) | (r % 16 < class_size(r / 16))
 }
 
+// By byte: 1 where it is no register's number.
+pub type MissingTable = [u8; 256];
+
+const MISSING: MissingTable = *b"\
+    \0\x01\x01\x01\x01\x01\x01\x01\x01\x01\x01\x01\x01\x01\x01\x01\
+    \0\0\0\0\0\0\0\0\0\0\0\0\0\0\0\0\
+    \0\0\0\0\x01\x01\x01\x01\x01\x01\x01\x01\x01\x01\x01\x01\
+    \0\0\0\0\0\0\0\0\0\0\0\0\0\0\0\0\
+    \0\0\0\0\0\0\0\0\0\0\0\0\0\0\0\0\
+    \0\0\0\0\0\0\0\0\0\0\0\0\0\0\0\0\
+    \0\0\x01\x01\x01\x01\x01\x01\x01\x01\x01\x01\x01\x01\x01\x01\
+    \0\0\0\0\0\0\x01\x01\x01\x01\x01\x01\x01\x01\x01\x01\
+    \0\0\0\0\0\0\0\0\0\0\0\0\0\0\0\0\
+    \0\0\0\0\0\0\0\0\0\0\0\0\0\0\0\0\
+    \x01\x01\x01\x01\x01\x01\x01\x01\x01\x01\x01\x01\x01\x01\x01\x01\
+    \x01\x01\x01\x01\x01\x01\x01\x01\x01\x01\x01\x01\x01\x01\x01\x01\
+    \x01\x01\x01\x01\x01\x01\x01\x01\x01\x01\x01\x01\x01\x01\x01\x01\
+    \x01\x01\x01\x01\x01\x01\x01\x01\x01\x01\x01\x01\x01\x01\x01\x01\
+    \x01\x01\x01\x01\x01\x01\x01\x01\x01\x01\x01\x01\x01\x01\x01\x01\
+    \x01\x01\x01\x01\x01\x01\x01\x01\x01\x01\x01\x01\x01\x01\x01\x01";
+
+// What question 8 reads of a body that is there.
+pub fn missing_table() -> MissingTable
+    ensures { λ t. ⌜ t ≡ missingTable ⌝ }
+{
+    MISSING
+}
+
+// Whether a byte is a register's number, by one read.
+pub fn register_known(missing: &[u8], r: u8) -> bool
+    requires { ⌜ now missing ≡ missingTable ⌝ }
+    ensures { λ b. ⌜ b ≡ registerExists r ⌝ }
+{
+    plain_u8(missing, r as usize) == 0
+}
+
 // The same of a byte, by the table of registers: one that exists has a name.
 pub fn register_named(registers: &[u8], r: u8) -> bool
     requires { ⌜ now registers ≡ registerTable ⌝ }
     ensures { λ b. ⌜ b ≡ registerExists r ⌝ }
 {
     column(registers, 0, 8, 160, r, 0) != 0
-}
-
-pub fn register_spelling(isa: &[u8], r: u8) -> &[u8]
-    requires { ⌜ now isa ≡ isaBytes ⌝ }
-    ensures { λ s. ⌜ now s ≡ registerName r ⌝ }
-{
-    if r < 160 {
-        return text_at(isa, 8 * r as u16);
-    }
-    &isa[0..0]
 }
 
 pub fn full_register(isa: &[u8], r: u8) -> u8

@@ -6,8 +6,7 @@ ghost use lib.Dec.{ltb};
 ghost use Rattle.lists.specs.Bytes.{u8At};
 ghost use Rattle.lists.specs.Choice.{pick};
 ghost use Rattle.lists.specs.Put.{put};
-ghost use Rattle.x86.specs.Table.{registerTable, mnemonicTable, conditionTable, isaBytes, textAt};
-use lists::reads::from;
+ghost use Rattle.x86.specs.Table.{registerTable, mnemonicTable, conditionTable, isaBytes};
 use lists::reads::u8_at;
 use lists::reads::within;
 use lists::stores::put_bytes;
@@ -153,14 +152,4 @@ pub fn column(isa: &[u8], at: u16, step: u8, n: u8, k: u8, other: u8) -> u8
     } else {
         other
     }
-}
-
-// The text at a place: its length, then its bytes.
-pub fn text_at(isa: &[u8], at: u16) -> &[u8]
-    ensures { λ r. ⌜ now r ≡ textAt (now (isa .entry)) at ⌝ }
-{
-    let n = u8_at(isa, at as usize) as usize;
-    let rest = from(isa, at as usize + 1);
-    let e = within(n, rest.len());
-    &rest[..e]
 }

@@ -7,7 +7,7 @@ use native.Mathlib.Omega.{arith}
 use lib.ListN.{length, length-replicate}
 use Rattle.lists.specs.Put.{put}
 use Rattle.record.specs.declared.header.Header.{Header}
-use Rattle.operand.specs.Bounds.{AllBytes}
+use Rattle.operand.proofs.Bounds.{AllBytes}
 use Rattle.listing.proofs.Outputs.{stands-whole, no-output, few-lines, short-text, page-output, short-output}
 use Rattle.listing.proofs.Prints.{prints}
 use borrow.Author.Needs.{needs}

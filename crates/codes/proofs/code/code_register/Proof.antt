@@ -1,7 +1,7 @@
 -- `code::code_register` meets its contract.
 -- The row of the register, or no text past the last.
 use Rattle.codes.proofs.EachToken.{none-coded, as-token}
-use Rattle.codes.proofs.TableLaws.{register-is, register-size}
+use Rattle.codes.proofs.TableLaws.{bytes, register-is, register-size}
 use Rattle.x86.proofs.Past.{no-register}
 use Rattle.x86.specs.Registers.{registerName}
 use Rattle.tokens.specs.Token.{token}
@@ -19,7 +19,8 @@ add-code-text c = search needs
 
 code-text-requires : tie.Need-code-text-requires
 code-text-requires c κs =
-    let b = c .before .before .before .before in (b .pre .0, (omega arith, register-size (b .args .tables .now) (b .pre .1) (b .args .r) (c .before .if1 .taken)))
+    let b = c .before .before .before .before in
+    (b .pre .0, (omega arith, (omega (arith, bytes (b .args .tables .now) (b .pre .1)), register-size (b .args .tables .now) (b .pre .1) (b .args .r) (c .before .if1 .taken))))
 
 same-length : tie.Need-same-length
 same-length c = search needs

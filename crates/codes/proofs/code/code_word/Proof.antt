@@ -1,7 +1,7 @@
 -- `code::code_word` meets its contract.
 -- The row of the word, or no text past the last.
 use Rattle.codes.proofs.EachToken.{none-coded, as-token}
-use Rattle.codes.proofs.TableLaws.{word-is, word-kind, word-size, no-word}
+use Rattle.codes.proofs.TableLaws.{bytes, word-is, word-kind, word-size, no-word}
 use Rattle.tokens.specs.Words.{wordToken}
 use native.Mathlib.Omega.{arith}
 use borrow.Author.Needs.{needs}
@@ -11,11 +11,12 @@ use Rattle.codes.proofs.code.code_word.Tie as tie
 mul-at : tie.Need-mul-at
 mul-at c = search needs
 
-cast-u8-at : tie.Need-cast-u8-at
-cast-u8-at c = search needs
+cast-code-text : tie.Need-cast-code-text
+cast-code-text c = search needs
 
-u8-at-requires : tie.Need-u8-at-requires
-u8-at-requires c κs = search needs
+shared-slice-read-code-text : tie.Need-shared-slice-read-code-text
+shared-slice-read-code-text c =
+    let b = c .before .before .before .before .before in omega (arith, bytes (b .args .tables .now) (b .pre .1))
 
 add-code-text : tie.Need-add-code-text
 add-code-text c = search needs
@@ -23,7 +24,9 @@ add-code-text c = search needs
 code-text-requires : tie.Need-code-text-requires
 code-text-requires c κs =
     let b = c .before .before .before .before .before in
-    (b .pre .0, (rw (c .u8-at .ensures .0) (word-kind (b .args .tables .now) (b .pre .1) (b .args .w) (c .before .before .if1 .taken)), word-size (b .args .tables .now) (b .pre .1) (b .args .w) (c .before .before .if1 .taken)))
+    let t = b .args .tables .now in
+    let h = c .before .before .if1 .taken in
+    (b .pre .0, (word-kind t (b .pre .1) (b .args .w) h, (omega (arith, bytes t (b .pre .1)), word-size t (b .pre .1) (b .args .w) h)))
 
 same-length : tie.Need-same-length
 same-length c = search needs
@@ -31,9 +34,7 @@ same-length c = search needs
 returns : tie.Need-returns
 returns c s =
     let b = c .before .before .before .before .before .before .before .before in
-    as-token _ (wordToken (b .args .w))
-    (rw (c .before .before .before .u8-at .ensures .0) (word-is (b .args .tables .now) (b .pre .1) (b .args .w) (c .before .before .before .before .before .if1 .taken)))
-    ((c .before .before .code-text .ensures) s)
+    as-token _ (wordToken (b .args .w)) (word-is (b .args .tables .now) (b .pre .1) (b .args .w) (c .before .before .before .before .before .if1 .taken)) ((c .before .before .code-text .ensures) s)
 
 put-code-requires : tie.Need-put-code-requires
 put-code-requires c κs = search needs
@@ -52,8 +53,8 @@ code-word-spec =
     tie.close
     (tie.spec
     mul-at
-    cast-u8-at
-    u8-at-requires
+    cast-code-text
+    shared-slice-read-code-text
     add-code-text
     code-text-requires
     same-length

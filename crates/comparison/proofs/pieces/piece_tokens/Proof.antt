@@ -11,13 +11,10 @@ read-header-requires c κs = search needs
 is-listed-requires : tie.Need-is-listed-requires
 is-listed-requires c κs = search needs
 
-write-chosen-requires : tie.Need-write-chosen-requires
-write-chosen-requires c κs =
+write-piece-requires : tie.Need-write-piece-requires
+write-piece-requires c κs =
     let a = c .before .before .before .before .before .before .before .before .before .before .args in
     listed-rising _ (a .rec .now) (a .instruction) (c .before .before .before .before .before .read-header .ensures) _ (c .before .before .before .before .is-listed .ensures) (c .before .before .before .if1 .taken)
-
-sizes-of-requires : tie.Need-sizes-of-requires
-sizes-of-requires c κs = search needs
 
 same-length : tie.Need-same-length
 same-length c = search needs
@@ -30,8 +27,8 @@ same-length-3 c = search needs
 
 returns : tie.Need-returns
 returns c =
-    let a = c .before .before .before .before .before .before .before .before .before .before .before .before .before .before .before .before .before .before .args in
-    written _ (a .rec .now) (a .instruction) (c .before .before .before .before .before .before .before .before .before .before .before .before .before .read-header .ensures) _ (c .before .before .before .before .before .before .before .before .before .before .before .before .is-listed .ensures) _ _ _ (a .first) (a .what) _ _ _ _ _ (c .before .before .before .before .before .before .before .before .before .before .before .if1 .taken) (c .before .before .before .before .before .before .before .write-chosen .ensures) (c .sizes-of .ensures)
+    let a = c .before .before .before .before .before .before .before .before .before .before .before .before .before .before .before .before .before .args in
+    written _ (a .rec .now) (a .instruction) (c .before .before .before .before .before .before .before .before .before .before .before .before .read-header .ensures) _ (c .before .before .before .before .before .before .before .before .before .before .before .is-listed .ensures) _ _ _ (a .first) (a .what) _ (c .before .before .before .before .before .before .before .before .before .before .if1 .taken) (c .before .before .before .before .before .before .write-piece .ensures)
 
 returns-2 : tie.Need-returns-2
 returns-2 c =
@@ -44,8 +41,7 @@ piece-tokens-spec =
     (tie.spec
     read-header-requires
     is-listed-requires
-    write-chosen-requires
-    sizes-of-requires
+    write-piece-requires
     same-length
     same-length-2
     same-length-3

@@ -1,7 +1,6 @@
--- `arguments` meets its contract.
+-- `arguments::arguments` meets its contract.
 -- By the bits.
-use mathlib.Core.Path.{ap, _∙_}
-use Rattle.tokens.specs.Sheet.{pushes}
+use Rattle.operand.proofs.Tokens.{as-tokens}
 use Rattle.expressions.proofs.Commas.{by-pushes, by-registers}
 use borrow.Author.Needs.{needs}
 use Rattle.expressions.proofs.arguments.arguments.Statement.{statement}
@@ -13,29 +12,21 @@ pushed-arguments-requires c κs = search needs
 same-length : tie.Need-same-length
 same-length c = search needs
 
-same-length-2 : tie.Need-same-length-2
-same-length-2 c = search needs
-
-same-length-3 : tie.Need-same-length-3
-same-length-3 c = search needs
-
 returns : tie.Need-returns
-returns c = (c .before .before .before .before .before .before .pushed-arguments .ensures) ∙ ap (pushes _) (by-pushes (c .before .before .before .before .before .before .before .before .before .before .before .before .before .before .before .before .before .before .args .h) (c .before .before .before .before .before .before .before .before .before .before .before .before .before .before .before .before .before .before .args .rec .now) (c .before .before .before .before .before .before .before .before .before .before .before .before .before .before .before .before .before .before .args .first) (c .before .before .before .before .before .before .before .before .before .before .before .before .before .before .before .before .before .before .args .i) (c .before .before .before .before .before .before .before .before .before .before .before .before .before .before .before .before .before .before .args .mask) (c .before .before .before .before .before .before .before .before .before .before .if1 .taken))
+returns c =
+    let a = c .before .before .before .before .before .before .before .before .before .args in
+    as-tokens (by-pushes (a .h) (a .rec .now) (a .first) (a .i) (a .mask) (c .before .before .before .before .if1 .taken)) (c .before .before .pushed-arguments .ensures)
 
 register-arguments-requires : tie.Need-register-arguments-requires
 register-arguments-requires c κs = search needs
 
-same-length-4 : tie.Need-same-length-4
-same-length-4 c = search needs
-
-same-length-5 : tie.Need-same-length-5
-same-length-5 c = search needs
-
-same-length-6 : tie.Need-same-length-6
-same-length-6 c = search needs
+same-length-2 : tie.Need-same-length-2
+same-length-2 c = search needs
 
 returns-2 : tie.Need-returns-2
-returns-2 c = (c .before .before .before .before .before .before .register-arguments .ensures) ∙ ap (pushes _) (by-registers (c .before .before .before .before .before .before .before .before .before .before .before .before .before .before .before .before .before .before .args .h) (c .before .before .before .before .before .before .before .before .before .before .before .before .before .before .before .before .before .before .args .rec .now) (c .before .before .before .before .before .before .before .before .before .before .before .before .before .before .before .before .before .before .args .first) (c .before .before .before .before .before .before .before .before .before .before .before .before .before .before .before .before .before .before .args .i) (c .before .before .before .before .before .before .before .before .before .before .before .before .before .before .before .before .before .before .args .mask) (c .before .before .before .before .before .before .before .before .before .before .if1 .left))
+returns-2 c =
+    let a = c .before .before .before .before .before .before .before .before .before .args in
+    as-tokens (by-registers (a .h) (a .rec .now) (a .first) (a .i) (a .mask) (c .before .before .before .before .if1 .left)) (c .before .before .register-arguments .ensures (a .rec .now))
 
 pub arguments-spec : {M : Type 1} → statement M
 arguments-spec =
@@ -43,11 +34,7 @@ arguments-spec =
     (tie.spec
     pushed-arguments-requires
     same-length
-    same-length-2
-    same-length-3
     returns
     register-arguments-requires
-    same-length-4
-    same-length-5
-    same-length-6
+    same-length-2
     returns-2)

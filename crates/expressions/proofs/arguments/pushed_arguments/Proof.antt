@@ -1,27 +1,31 @@
--- `pushed_arguments` meets its contract.
--- The invariant: the pushes left, pushed from here, are all of them pushed from the start.
-use mathlib.Core.Path.{_≡_, refl, ap, _∙_}
+-- `arguments::pushed_arguments` meets its contract.
+-- The invariant: the pushes coded and those left are all of them.
+use mathlib.Core.Path.{_≡_, refl}
 use mathlib.Core.Bool.{false}
-use mathlib.Core.List.{List}
-use Prim.Native.Nat.{ℕ, _-_}
+use Prim.Native.Nat.{_-_}
 use native.Mathlib.Omega.{arith}
-use lib.ListN.{length, drop}
-use Rattle.tokens.specs.Sheet.{sheet, pushes}
+use lib.ListN.{length}
+use Rattle.codes.proofs.Coding.{coded-none}
+use Rattle.operand.proofs.Tokens.{as-tokens}
 use Rattle.expressions.specs.Arguments.{pushesBack, pushed}
-use Rattle.expressions.specs.Turns.{turn, done}
 use Rattle.expressions.proofs.Commas.{back-turn, back-stop, back-none}
+use Rattle.expressions.proofs.Bodies.{bodies-are}
+use Rattle.expressions.proofs.CodedCommas.{all-pushed}
+use Rattle.expressions.proofs.Turns.{Sofar, at-start, further, at-end}
 use borrow.Author.Needs.{needs}
 use Rattle.expressions.proofs.arguments.pushed_arguments.Statement.{statement}
 use Rattle.expressions.proofs.arguments.pushed_arguments.Tie as tie
 
 abbrev Inv-loop : tie.InvT-loop
-Inv-loop text₀ ends₀ kinds₀ words isa rec h first i bodies frame p₀ comma₀ k₀ text ends kinds p comma k =
-    (length text ≡ length text₀) × (length ends ≡ length ends₀) × (length kinds ≡ length kinds₀)
-    × (pushes (sheet text ends kinds p) (pushed h rec comma (pushesBack frame bodies first (k - first)))
-    ≡ pushes (sheet text₀ ends₀ kinds₀ p₀) (pushed h rec false (pushesBack frame bodies first (i - first))))
+Inv-loop codes₀ tables rec h first i isa bodies frame comma₀ k₀ codes comma k =
+    (length codes ≡ length codes₀)
+    × Sofar tables rec codes₀ codes (pushed h rec false (pushesBack frame bodies first (i - first))) (pushed h rec comma (pushesBack frame bodies first (k - first)))
 
 abbrev μ-loop : tie.MeasureT-loop
-μ-loop text₀ ends₀ kinds₀ words isa rec h first i bodies frame p₀ comma₀ k₀ text ends kinds p comma k = k
+μ-loop codes₀ tables rec h first i isa bodies frame comma₀ k₀ codes comma k = k
+
+isa-of-requires : tie.Need-isa-of-requires Inv-loop μ-loop
+isa-of-requires c κs = search needs
 
 bodies-at-requires : tie.Need-bodies-at-requires Inv-loop μ-loop
 bodies-at-requires c κs = search needs
@@ -30,7 +34,7 @@ from-requires : tie.Need-from-requires Inv-loop μ-loop
 from-requires c κs = search needs
 
 loop-holds : tie.Need-loop-holds Inv-loop μ-loop
-loop-holds c = (refl, refl, refl, refl)
+loop-holds c = (refl, at-start (coded-none _ _ _ (c .before .before .before .before .before .slice-known .given)))
 
 sub-j : tie.Need-sub-j Inv-loop μ-loop
 sub-j c = search needs
@@ -41,14 +45,10 @@ is-unskipped-requires c κs = search needs
 same-length : tie.Need-same-length Inv-loop μ-loop
 same-length c = search needs
 
-same-length-2 : tie.Need-same-length-2 Inv-loop μ-loop
-same-length-2 c = search needs
-
-same-length-3 : tie.Need-same-length-3 Inv-loop μ-loop
-same-length-3 c = search needs
-
 returns : tie.Need-returns Inv-loop μ-loop
-returns c = done _ _ _ (back-stop _ _ _ (c .before .before .before .loop .k) (c .before .before .before .before .before .before .before .before .before .before .before .before .args .h) (c .before .before .before .before .before .before .before .before .before .before .before .before .args .rec .now) (c .before .before .before .loop .comma) _ (c .before .before .loop-test .taken) (c .before .is-unskipped .ensures) (c .if1 .taken)) (c .before .before .before .loop .inv .3) ∙ ap (pushes _) (ap (λ (x : List ℕ). pushed (c .before .before .before .before .before .before .before .before .before .before .before .before .args .h) (c .before .before .before .before .before .before .before .before .before .before .before .before .args .rec .now) false (pushesBack ((c .before .before .before .before .before .before .before .before .before .before .before .before .args .h) .frame) x (c .before .before .before .before .before .before .before .before .before .before .before .before .args .first) ((c .before .before .before .before .before .before .before .before .before .before .before .before .args .i) - (c .before .before .before .before .before .before .before .before .before .before .before .before .args .first)))) ((c .before .before .before .before .from .ensures .0) ∙ ap (λ (x : ℕ). drop x (c .before .before .before .before .before .before .before .before .before .before .before .before .args .rec .now)) (c .before .before .before .before .before .bodies-at .ensures .0)))
+returns c =
+    let a = c .before .before .before .before .before .before .before .before .before .before .args in
+    as-tokens (all-pushed (a .h) (a .rec .now) _ (a .first) (a .i) (bodies-are (a .h) (a .rec .now) (c .before .before .before .before .from .ensures .0) (c .before .before .before .before .before .bodies-at .ensures .0))) (at-end (c .before .before .before .loop .inv .1) (back-stop _ _ _ (c .before .before .before .loop .k) (a .h) (a .rec .now) (c .before .before .before .loop .comma) _ (c .before .before .loop-test .taken) (c .before .is-unskipped .ensures) (c .if1 .taken)))
 
 is-unskipped-requires-2 : tie.Need-is-unskipped-requires-2 Inv-loop μ-loop
 is-unskipped-requires-2 c κs = search needs
@@ -56,33 +56,26 @@ is-unskipped-requires-2 c κs = search needs
 body-at-requires : tie.Need-body-at-requires Inv-loop μ-loop
 body-at-requires c κs = search needs
 
-push-argument-requires : tie.Need-push-argument-requires Inv-loop μ-loop
-push-argument-requires c κs = search needs
+code-pushed-requires : tie.Need-code-pushed-requires Inv-loop μ-loop
+code-pushed-requires c κs = search needs
 
 loop-less : tie.Need-loop-less Inv-loop μ-loop
 loop-less c = search needs
 
 loop-again : tie.Need-loop-again Inv-loop μ-loop
-loop-again c = (
-  omega (arith, (c .before .before .before .before .before .before .push-argument .kept .0), (c .before .before .before .before .before .before .before .before .before .before .before .before .before .before .before .loop .inv .0)),
-  omega (arith, (c .before .before .before .before .before .before .push-argument .kept .1 .0), (c .before .before .before .before .before .before .before .before .before .before .before .before .before .before .before .loop .inv .1)),
-  omega (arith, (c .before .before .before .before .before .before .push-argument .kept .1 .1 .0), (c .before .before .before .before .before .before .before .before .before .before .before .before .before .before .before .loop .inv .2)),
-  turn _ _ _ _ _ _
-      (back-turn (c .before .before .before .before .before .before .before .before .before .before .before .before .before .before .before .before .before .before .before .before .before .before .before .before .args .h) (c .before .before .before .before .before .before .before .before .before .before .before .before .before .before .before .before .before .before .before .before .before .before .before .before .args .rec .now) _ _ ((c .before .before .before .before .before .before .before .before .before .before .before .before .before .before .before .before .from .ensures .0) ∙ ap (λ (x : ℕ). drop x (c .before .before .before .before .before .before .before .before .before .before .before .before .before .before .before .before .before .before .before .before .before .before .before .before .args .rec .now)) (c .before .before .before .before .before .before .before .before .before .before .before .before .before .before .before .before .before .bodies-at .ensures .0)) _ (c .before .before .before .before .before .before .before .before .before .before .before .before .before .before .before .loop .k) (c .before .before .before .before .before .before .before .before .before .before .before .before .before .before .loop-test .taken) (c .before .before .before .before .before .before .before .before .before .before .before .before .before .before .before .loop .comma) _ _ (c .before .before .before .before .before .before .before .before .before .before .before .before .before .is-unskipped .ensures) (c .before .before .before .before .before .before .before .before .before .before .before .before .if1 .left) (c .before .before .before .before .before .before .before .before .before .before .before .is-unskipped2 .ensures) _ (c .before .before .before .before .before .before .before .before .before .before .body-at .ensures))
-      (c .before .before .before .before .before .before .push-argument .ensures) (c .before .before .before .before .before .before .before .before .before .before .before .before .before .before .before .loop .inv .3),
-)
+loop-again c =
+    let a = c .before .before .before .before .before .before .before .before .before .before .before .before .before .before .before .before .args in (
+      omega (arith, (c .before .before .code-pushed .kept .0), (c .before .before .before .before .before .before .before .before .before .loop .inv .0)),
+      further (c .before .before .before .before .before .before .before .before .before .loop .inv .1) (back-turn (a .h) (a .rec .now) _ _ (bodies-are (a .h) (a .rec .now) (c .before .before .before .before .before .before .before .before .before .before .from .ensures .0) (c .before .before .before .before .before .before .before .before .before .before .before .bodies-at .ensures .0)) _ (c .before .before .before .before .before .before .before .before .before .loop .k) (c .before .before .before .before .before .before .before .before .loop-test .taken) (c .before .before .before .before .before .before .before .before .before .loop .comma) _ _ (c .before .before .before .before .before .before .before .is-unskipped .ensures) (c .before .before .before .before .before .before .if1 .left) (c .before .before .before .before .before .is-unskipped2 .ensures) _ (c .before .before .before .before .body-at .ensures)) (c .before .before .code-pushed .ensures),
+    )
 
-same-length-4 : tie.Need-same-length-4 Inv-loop μ-loop
-same-length-4 c = search needs
-
-same-length-5 : tie.Need-same-length-5 Inv-loop μ-loop
-same-length-5 c = search needs
-
-same-length-6 : tie.Need-same-length-6 Inv-loop μ-loop
-same-length-6 c = search needs
+same-length-2 : tie.Need-same-length-2 Inv-loop μ-loop
+same-length-2 c = search needs
 
 returns-2 : tie.Need-returns-2 Inv-loop μ-loop
-returns-2 c = done _ _ _ (back-none _ _ _ (c .before .loop .k) (c .before .before .before .before .before .before .before .before .before .before .args .h) (c .before .before .before .before .before .before .before .before .before .before .args .rec .now) (c .before .loop .comma) (c .loop-test .left)) (c .before .loop .inv .3) ∙ ap (pushes _) (ap (λ (x : List ℕ). pushed (c .before .before .before .before .before .before .before .before .before .before .args .h) (c .before .before .before .before .before .before .before .before .before .before .args .rec .now) false (pushesBack ((c .before .before .before .before .before .before .before .before .before .before .args .h) .frame) x (c .before .before .before .before .before .before .before .before .before .before .args .first) ((c .before .before .before .before .before .before .before .before .before .before .args .i) - (c .before .before .before .before .before .before .before .before .before .before .args .first)))) ((c .before .before .from .ensures .0) ∙ ap (λ (x : ℕ). drop x (c .before .before .before .before .before .before .before .before .before .before .args .rec .now)) (c .before .before .before .bodies-at .ensures .0)))
+returns-2 c =
+    let a = c .before .before .before .before .before .before .before .before .args in
+    as-tokens (all-pushed (a .h) (a .rec .now) _ (a .first) (a .i) (bodies-are (a .h) (a .rec .now) (c .before .before .from .ensures .0) (c .before .before .before .bodies-at .ensures .0))) (at-end (c .before .loop .inv .1) (back-none _ _ _ (c .before .loop .k) (a .h) (a .rec .now) (c .before .loop .comma) (c .loop-test .left)))
 
 pub pushed-arguments-spec : {M : Type 1} → statement M
 pushed-arguments-spec =
@@ -90,21 +83,18 @@ pushed-arguments-spec =
     (tie.spec
     Inv-loop
     μ-loop
+    isa-of-requires
     bodies-at-requires
     from-requires
     loop-holds
     sub-j
     is-unskipped-requires
     same-length
-    same-length-2
-    same-length-3
     returns
     is-unskipped-requires-2
     body-at-requires
-    push-argument-requires
+    code-pushed-requires
     loop-less
     loop-again
-    same-length-4
-    same-length-5
-    same-length-6
+    same-length-2
     returns-2)

@@ -20,13 +20,16 @@ returns : tie.Need-returns
 unfolding placeOf
 returns c = simp (c .place-found .ensures, c .before .search .ensures, c .before .before .before .from .ensures .0)
 
-place-in-requires : tie.Need-place-in-requires
-place-in-requires c κs = search needs
+first-of-requires : tie.Need-first-of-requires
+first-of-requires c κs = search needs
+
+place-found-requires-2 : tie.Need-place-found-requires-2
+place-found-requires-2 c κs = search needs
 
 returns-2 : tie.Need-returns-2
 unfolding placeOf
-returns-2 c = simp (c .place-in .ensures, c .before .before .from .ensures .0)
+returns-2 c = simp (c .place-found2 .ensures, c .before .first-of .ensures, c .before .before .before .from .ensures .0)
 
 pub place-of-spec : {M : Type 1} → statement M
 place-of-spec =
-    tie.close (tie.spec from-requires search-requires place-found-requires returns place-in-requires returns-2)
+    tie.close (tie.spec from-requires search-requires place-found-requires returns first-of-requires place-found-requires-2 returns-2)

@@ -12,10 +12,16 @@ use Rattle.flow.proofs.rows.shown_rows.Statement.{statement}
 use Rattle.flow.proofs.rows.shown_rows.Tie as tie
 
 abbrev Inv-loop : tie.InvT-loop
-Inv-loop isa rec h out₀ bodies i₀ out i = (i ≤ h .instructions) × (bodies ≡ bodiesOf h rec) × Left (shownRow h rec) (h .instructions) out₀ i out i
+Inv-loop isa rec h out₀ classes bodies i₀ out i = (i ≤ h .instructions) × (bodies ≡ bodiesOf h rec) × Left (shownRow h rec) (h .instructions) out₀ i out i
 
 abbrev μ-loop : tie.MeasureT-loop
-μ-loop isa rec h out₀ bodies i₀ out i = h .instructions - i
+μ-loop isa rec h out₀ classes bodies i₀ out i = h .instructions - i
+
+class-table-requires : tie.Need-class-table-requires Inv-loop μ-loop
+class-table-requires c κs = search needs
+
+slice-aggregate-classes : tie.Need-slice-aggregate-classes Inv-loop μ-loop
+slice-aggregate-classes c = search needs
 
 bodies-at-requires : tie.Need-bodies-at-requires Inv-loop μ-loop
 bodies-at-requires c κs = search needs
@@ -48,7 +54,7 @@ loop-again : tie.Need-loop-again Inv-loop μ-loop
 unfolding shownRow
 loop-again c =
     let l = c .before .before .before .before .before .before .before .before .before in
-    let a = l .before .before .before .before .before .before .args in
+    let a = l .before .before .before .before .before .before .before .before .args in
     let v = l .loop .inv in
     let s = c .before .before .before .before in (
       search needs,
@@ -71,6 +77,8 @@ shown-rows-spec =
     (tie.spec
     Inv-loop
     μ-loop
+    class-table-requires
+    slice-aggregate-classes
     bodies-at-requires
     from-requires
     loop-holds

@@ -2,7 +2,7 @@
 -- By whether there is a displacement.
 use mathlib.Core.Path.{ap}
 use Rattle.operand.specs.declared.numbers.Sized.{Sized}
-use Rattle.operand.proofs.Pushes.{yes-is, no-is}
+use Rattle.operand.proofs.Readings.{yes-is, no-is}
 use Rattle.operand.specs.Memory.{addressExpr}
 use borrow.Author.Needs.{needs}
 use Rattle.operand.proofs.memory.address_loose.Statement.{statement}

@@ -1,6 +1,6 @@
 -- `memory::registers_loose` meets its contract.
 -- By which registers there are.
-use Rattle.operand.proofs.Pushes.{yes-is, no-is, scaled-loose}
+use Rattle.operand.proofs.Readings.{yes-is, no-is, scaled-loose}
 use borrow.Author.Needs.{needs}
 use Rattle.operand.proofs.memory.registers_loose.Statement.{statement}
 use Rattle.operand.proofs.memory.registers_loose.Tie as tie

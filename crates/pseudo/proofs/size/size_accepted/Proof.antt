@@ -11,17 +11,11 @@ use borrow.Author.Needs.{needs}
 use Rattle.pseudo.proofs.size.size_accepted.Statement.{statement}
 use Rattle.pseudo.proofs.size.size_accepted.Tie as tie
 
-word-table-requires : tie.Need-word-table-requires
-word-table-requires c κs = search needs
+tables-requires : tie.Need-tables-requires
+tables-requires c κs = search needs
 
-slice-aggregate-words : tie.Need-slice-aggregate-words
-slice-aggregate-words c = search needs
-
-isa-requires : tie.Need-isa-requires
-isa-requires c κs = search needs
-
-slice-aggregate-isa : tie.Need-slice-aggregate-isa
-slice-aggregate-isa c = search needs
+slice-aggregate-tables : tie.Need-slice-aggregate-tables
+slice-aggregate-tables c = search needs
 
 row-table-requires : tie.Need-row-table-requires
 row-table-requires c κs = search needs
@@ -33,7 +27,7 @@ slice-aggregate-block-rows : tie.Need-slice-aggregate-block-rows
 slice-aggregate-block-rows c = search needs
 
 block-rows-requires : tie.Need-block-rows-requires
-block-rows-requires c κs = counted ((c .before .before .before .before .before .before .before .before .args) .rec .now) ((c .before .before .before .before .before .before .before .before .args) .from) ((c .before .before .before .before .before .before .before .before .args) .to) ((c .before .before .before .before .before .before .before .before .args) .h) (c .before .before .before .before .before .before .before .before .pre)
+block-rows-requires c κs = counted ((c .before .before .before .before .before .before .args) .rec .now) ((c .before .before .before .before .before .before .args) .from) ((c .before .before .before .before .before .before .args) .to) ((c .before .before .before .before .before .before .args) .h) ((c .before .before .before .before .before .before .pre))
 
 slice-aggregate-part-u16 : tie.Need-slice-aggregate-part-u16
 slice-aggregate-part-u16 c = search needs
@@ -49,14 +43,12 @@ part-u16-requires c κs = search needs
 
 size-range-requires : tie.Need-size-range-requires
 size-range-requires c κs =
-    let h = (c .before .before .before .before .before .before .before .before .before .before .before .before .before .args) .h in
-    let s = (c .before .before .before .before .before .before .before .before .before .before .before .before .before .args) .rec .now in
-    let yes = (c .before .before .before .before .before .before .before .before .before .before .before .before .before .pre) in
-    let small = limits-small h (limits s ((c .before .before .before .before .before .before .before .before .before .before .before .before .before .args) .from) ((c .before .before .before .before .before .before .before .before .before .before .before .before .before .args) .to) h yes) in
+    let h = (c .before .before .before .before .before .before .before .before .before .before .before .args) .h in
+    let s = (c .before .before .before .before .before .before .before .before .before .before .before .args) .rec .now in
+    let yes = (c .before .before .before .before .before .before .before .before .before .before .before .pre) in
     let b =
-    filled (blockRows h s) _ _ _ (8 * (c .before .size) .result) (8 * h .blocks) (blocks-length h s) (omega (arith, small .blocks)) (omega (arith, (c .before .size) .ensures))
-    ((c .before .before .before .before .block-rows) .ensures) ((c .part-u16) .ensures) in
-    (record { words-are = (c .before .before .before .before .before .before .before .before .before .before .before .word-table) .ensures; isa-is = (c .before .before .before .before .before .before .before .before .before .isa) .ensures; rising = rising s ((c .before .before .before .before .before .before .before .before .before .before .before .before .before .args) .from) ((c .before .before .before .before .before .before .before .before .before .before .before .before .before .args) .to) h yes }, ((c .before .before .before .before .before .before .before .row-table) .ensures, (b, yes)))
+    filled (blockRows h s) _ _ _ (8 * (c .before .size) .result) (8 * h .blocks) (blocks-length h s) (omega (arith, limits-small h (limits s ((c .before .before .before .before .before .before .before .before .before .before .before .args) .from) ((c .before .before .before .before .before .before .before .before .before .before .before .args) .to) h yes) .blocks)) (omega (arith, (c .before .size) .ensures)) ((c .before .before .before .before .block-rows) .ensures) ((c .part-u16) .ensures) in
+    (((c .before .before .before .before .before .before .before .before .before .tables) .ensures, rising s ((c .before .before .before .before .before .before .before .before .before .before .before .args) .from) ((c .before .before .before .before .before .before .before .before .before .before .before .args) .to) h yes), ((c .before .before .before .before .before .before .before .row-table) .ensures, (b, yes)))
 
 returns : tie.Need-returns
 returns c = search needs
@@ -65,10 +57,8 @@ pub size-accepted-spec : {M : Type 1} → statement M
 size-accepted-spec =
     tie.close
     (tie.spec
-    word-table-requires
-    slice-aggregate-words
-    isa-requires
-    slice-aggregate-isa
+    tables-requires
+    slice-aggregate-tables
     row-table-requires
     slice-aggregate-rows
     slice-aggregate-block-rows

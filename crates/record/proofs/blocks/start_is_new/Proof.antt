@@ -1,73 +1,39 @@
 -- Whether a block's start is new: `start_is_new` meets its contract.
--- The invariant: every start so far differs from block k's.
-use mathlib.Core.Path.{_≡_, sym}
-use Prim.Native.Nat.{_≤_, _-_}
-use native.Mathlib.Omega.{arith}
+-- It is where it is found nowhere before.
+use mathlib.Core.Path.{_≡_, sym, ap, _∙_}
+use mathlib.Core.List.{List}
+use Prim.Native.Nat.{ℕ}
 use borrow.Author.Needs.{needs}
-use mathlib.Core.Bool.{true}
-use Rattle.lists.specs.Choice.{allBelow}
-use Rattle.lists.specs.Below.{all-goes-on, all-fails}
-use Rattle.record.specs.Blocks.{differ, startIsNew}
+use Rattle.record.specs.declared.search.Found.{Found}
+use Rattle.record.specs.Blocks.{startAt, differ, startIsNew}
+use Rattle.record.specs.Search.{findFrom}
+use Rattle.record.proofs.SearchLaws.{none, none-all}
 use Rattle.record.proofs.blocks.start_is_new.Statement.{statement}
 use Rattle.record.proofs.blocks.start_is_new.Tie as tie
 
-abbrev Inv-loop : tie.InvT-loop
-Inv-loop starts k x j₀ j = (j ≤ k) × (allBelow (differ starts k) j ≡ true)
+new : (starts : List ℕ) (k x : ℕ) (found : Found) → x ≡ startAt starts k → found ≡ findFrom starts x 0 k → none found ≡ startIsNew starts k
+unfolding startIsNew differ
+new starts k x found e f = rw e at (ap none f ∙ none-all starts x k)
 
-abbrev μ-loop : tie.MeasureT-loop
-μ-loop starts k x j₀ j = k - j
-
-start-at-requires : tie.Need-start-at-requires Inv-loop μ-loop
+start-at-requires : tie.Need-start-at-requires
 start-at-requires c κs = search needs
 
-loop-holds : tie.Need-loop-holds Inv-loop μ-loop
-loop-holds c = search needs
+first-of-requires : tie.Need-first-of-requires
+first-of-requires c κs = search needs
 
-start-at-requires-2 : tie.Need-start-at-requires-2 Inv-loop μ-loop
-start-at-requires-2 c κs = search needs
+enum-told : tie.Need-enum-told
+enum-told c = search needs
 
-same-address-requires : tie.Need-same-address-requires Inv-loop μ-loop
-same-address-requires c κs = search needs
+enum-told-2 : tie.Need-enum-told-2
+enum-told-2 c = search needs
 
-returns : tie.Need-returns Inv-loop μ-loop
-unfolding startIsNew differ
-returns c =
-    let l = c .before .before .before .before in
-    let a = l .before .before .before .args in
-    sym (all-fails (differ (a .starts .now) (a .k)) (a .k) (l .loop .j) (search needs) (simp (sym (l .before .start-at .ensures), sym (c .before .before .start-at2 .ensures), sym (c .before .same-address .ensures), c .if1 .taken)))
+returns : tie.Need-returns
+returns c = sym (ap none (c .enum-told .given .1)) ∙ new _ _ _ _ (c .before .before .before .start-at .ensures) (c .before .before .first-of .ensures)
 
-add-j : tie.Need-add-j Inv-loop μ-loop
-add-j c = search needs
-
-loop-less : tie.Need-loop-less Inv-loop μ-loop
-loop-less c = search needs
-
-loop-again : tie.Need-loop-again Inv-loop μ-loop
-unfolding differ
-loop-again c =
-    let l = c .before .before .before .before in
-    let a = l .before .before .before .args in
-    (search needs, all-goes-on (differ (a .starts .now) (a .k)) (l .loop .j) (l .loop .inv .1) (simp (sym (l .before .start-at .ensures), sym (c .before .before .start-at2 .ensures), sym (c .before .same-address .ensures), c .if1 .left)))
-
-returns-2 : tie.Need-returns-2 Inv-loop μ-loop
-unfolding startIsNew
-returns-2 c =
-    let l = c .before in
-    let e : l .loop .j ≡ l .before .before .before .args .k = omega arith in
-    sym (rw e at (l .loop .inv .1))
+returns-2 : tie.Need-returns-2
+returns-2 c = sym (ap none (c .enum-told2 .given .1)) ∙ new _ _ _ _ (c .before .before .before .start-at .ensures) (c .before .before .first-of .ensures)
 
 pub start-is-new-spec : {M : Type 1} → statement M
 start-is-new-spec =
     tie.close
-    (tie.spec
-    Inv-loop
-    μ-loop
-    start-at-requires
-    loop-holds
-    start-at-requires-2
-    same-address-requires
-    returns
-    add-j
-    loop-less
-    loop-again
-    returns-2)
+    (tie.spec start-at-requires first-of-requires enum-told enum-told-2 returns returns-2)

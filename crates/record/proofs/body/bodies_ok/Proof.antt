@@ -1,5 +1,5 @@
 -- Question 8: `bodies_ok` meets its contract.
--- The invariant: so far every body is right, or `ok` is false.
+-- Where bodies are cut off the invariant: so far every body is right, or `ok` is false.
 use mathlib.Core.Path.{_≡_}
 use Prim.Native.Nat.{_≤_, _-_}
 use native.Mathlib.Omega.{arith}
@@ -15,6 +15,15 @@ Inv-loop bodies instructions registers ok₀ i₀ ok i = (i ≤ instructions) ×
 
 abbrev μ-loop : tie.MeasureT-loop
 μ-loop bodies instructions registers ok₀ i₀ ok i = instructions - i
+
+mul-if1 : tie.Need-mul-if1 Inv-loop μ-loop
+mul-if1 c = search needs
+
+plain-bodies-ok-requires : tie.Need-plain-bodies-ok-requires Inv-loop μ-loop
+plain-bodies-ok-requires c κs = search needs
+
+returns : tie.Need-returns Inv-loop μ-loop
+returns c = c .plain-bodies-ok .ensures
 
 register-table-requires : tie.Need-register-table-requires Inv-loop μ-loop
 register-table-requires c κs = search needs
@@ -40,11 +49,11 @@ loop-less c = search needs
 loop-again : tie.Need-loop-again Inv-loop μ-loop
 loop-again c = (search needs, simp (all-more, (c .before .before .before .loop) .inv .1, (c .body-ok) .ensures, (c .before .body-at) .ensures))
 
-returns : tie.Need-returns Inv-loop μ-loop
+returns-2 : tie.Need-returns-2 Inv-loop μ-loop
 unfolding bodiesOk
-returns c =
+returns-2 c =
     let l = c .before in
-    let e : l .loop .i ≡ (c .before .before .before .before .before .args) .instructions = omega arith in
+    let e : l .loop .i ≡ l .before .before .before .before .before .args .instructions = omega arith in
     simp (l .loop .inv .1, e)
 
 pub bodies-ok-spec : {M : Type 1} → statement M
@@ -53,6 +62,9 @@ bodies-ok-spec =
     (tie.spec
     Inv-loop
     μ-loop
+    mul-if1
+    plain-bodies-ok-requires
+    returns
     register-table-requires
     slice-aggregate-registers
     loop-holds
@@ -61,4 +73,4 @@ bodies-ok-spec =
     add-i
     loop-less
     loop-again
-    returns)
+    returns-2)

@@ -2,13 +2,13 @@
 -- The invariant: writing the codes left from here gives the page that writing all gives from the start, and there is room for them.
 use borrow.Author.Needs.{needs}
 use mathlib.Core.Path.{_≡_, refl, _∙_}
-use Prim.Native.Nat.{_-_}
+use Prim.Native.Nat.{_+_, _-_}
 use native.Mathlib.Omega.{arith}
 use lib.ListN.{length, drop, getD}
 use Rattle.codes.specs.Code.{hasValue, decode}
 use Rattle.writer.specs.Written.{page, onPage, Room}
 use Rattle.codes.proofs.Decoded.{width-few}
-use Rattle.writer.proofs.PageLaws.{turn, turn-room, room-at, done}
+use Rattle.writer.proofs.PageLaws.{word-fits, word-written, word-width, turn, turn-room, room-at, done}
 use Rattle.writer.proofs.write.write_codes.Statement.{statement}
 use Rattle.writer.proofs.write.write_codes.Tie as tie
 
@@ -30,36 +30,71 @@ mul-c c = search needs
 shared-slice-read-c : tie.Need-shared-slice-read-c Inv-loop μ-loop
 shared-slice-read-c c = search needs
 
+write-word-requires : tie.Need-write-word-requires Inv-loop μ-loop
+write-word-requires c κs =
+    let a = c .before .before .before .before .before .before .before .before .before .before .before .before .before .before .args in
+    let l = c .before .before .before .before .before .before .loop in
+    let g = c .before .before .before .if1 .taken in
+    let v = getD (a .codes .now) (l .i + 1) 0 in (
+      g,
+      word-fits (a .tables .now) (a .rec .now) (getD (a .codes .now) (l .i) 0) v g (l .text) (l .ends) (l .kinds) (l .r) (length (l .lines))
+          (room-at (a .tables .now) (a .rec .now) (a .codes .now) (l .i) v (c .before .before .before .before .before .loop-test .taken) refl (length (l .text)) (length (l .ends)) (length (l .kinds)) (length (l .lines)) (l .r) (l .inv .5)),
+    )
+
+add-i : tie.Need-add-i Inv-loop μ-loop
+add-i c = omega (arith, c .before .before .before .before .before .before .before .before .before .before .before .before .loop-test .taken, c .before .before .before .before .before .before .before .before .before .before .before .before .before .before .before .before .before .before .before .before .before .good)
+
+loop-less : tie.Need-loop-less Inv-loop μ-loop
+loop-less c = omega (arith, c .before .before .before .before .before .before .before .before .before .before .before .before .loop-test .taken)
+
+loop-again : tie.Need-loop-again Inv-loop μ-loop
+loop-again c =
+    let a = c .before .before .before .before .before .before .before .before .before .before .before .before .before .before .before .before .before .before .before .before .before .args in
+    let l = c .before .before .before .before .before .before .before .before .before .before .before .before .before .loop in
+    let h = c .before .before .before .before .before .before .before .before .before .before .before .before .loop-test .taken in
+    let g = c .before .before .before .before .before .before .before .before .before .before .if1 .taken in
+    let w = c .before .before .before .before .before .before .write-word in
+    let n = word-width (getD (a .codes .now) (l .i) 0) g in
+    let v = getD (a .codes .now) (l .i + 1) 0 in
+    let q = word-written (a .tables .now) (a .rec .now) (getD (a .codes .now) (l .i) 0) v g (page (l .text) (l .ends) (l .kinds) (l .lines) (l .r)) _ (w .ensures (l .lines)) in (
+      w .kept .0 ∙ l .inv .0,
+      w .kept .1 .0 ∙ l .inv .1,
+      w .kept .1 .1 .0 ∙ l .inv .2,
+      l .inv .3,
+      turn _ _ _ _ _ v h n refl _ _ _ _ _ _ _ _ _ _ q ∙ l .inv .4,
+      turn-room _ _ _ _ _ v h n refl _ _ _ _ _ _ _ _ _ _ q (w .kept .0) (w .kept .1 .0) (w .kept .1 .1 .0) refl (l .inv .5),
+    )
+
 add-u64-in : tie.Need-add-u64-in Inv-loop μ-loop
-add-u64-in c = omega (arith, c .before .before .before .before .before .loop-test .taken, c .before .before .before .before .before .before .before .before .before .before .before .before .before .before .good)
+add-u64-in c = omega (arith, c .before .before .before .before .before .before .loop-test .taken, c .before .before .before .before .before .before .before .before .before .before .before .before .before .before .before .good)
 
 u64-in-requires : tie.Need-u64-in-requires Inv-loop μ-loop
 u64-in-requires c κs = search needs
 
 write-code-requires : tie.Need-write-code-requires Inv-loop μ-loop
 write-code-requires c κs =
-    let a = c .before .before .before .before .before .before .before .before .before .before .before .before .before .before .before .args in
-    let l = c .before .before .before .before .before .before .before .loop in
-    room-at (a .tables .now) (a .rec .now) (a .codes .now) (l .i) (c .u64-in .result) (c .before .before .before .before .before .before .loop-test .taken) (c .u64-in .ensures .0)
+    let a = c .before .before .before .before .before .before .before .before .before .before .before .before .before .before .before .before .args in
+    let l = c .before .before .before .before .before .before .before .before .loop in
+    room-at (a .tables .now) (a .rec .now) (a .codes .now) (l .i) (c .u64-in .result) (c .before .before .before .before .before .before .before .loop-test .taken) (c .u64-in .ensures .0)
     (length (l .text)) (length (l .ends)) (length (l .kinds)) (length (l .lines)) (l .r) (l .inv .5)
 
 width-requires : tie.Need-width-requires Inv-loop μ-loop
 width-requires c κs = search needs
 
-add-i : tie.Need-add-i Inv-loop μ-loop
-add-i c =
-    let f = width-few (hasValue (getD (c .before .before .before .before .before .before .before .before .before .before .before .before .before .before .before .before .before .before .before .before .before .before .before .before .before .args .codes .now) (c .before .before .before .before .before .before .before .before .before .before .before .before .before .before .before .before .before .loop .i) 0)) (c .width .result) (c .width .ensures) in
-    omega (arith, f .1, c .before .before .before .before .before .before .before .before .before .before .before .before .before .before .before .before .loop-test .taken, c .before .before .before .before .before .before .before .before .before .before .before .before .before .before .before .before .before .before .before .before .before .before .before .before .before .good)
+add-i-2 : tie.Need-add-i-2 Inv-loop μ-loop
+add-i-2 c =
+    let f = width-few (hasValue (getD (c .before .before .before .before .before .before .before .before .before .before .before .before .before .before .before .before .before .before .before .before .before .before .before .before .before .before .args .codes .now) (c .before .before .before .before .before .before .before .before .before .before .before .before .before .before .before .before .before .before .loop .i) 0)) (c .width .result) (c .width .ensures) in
+    omega (arith, f .1, c .before .before .before .before .before .before .before .before .before .before .before .before .before .before .before .before .before .loop-test .taken, c .before .before .before .before .before .before .before .before .before .before .before .before .before .before .before .before .before .before .before .before .before .before .before .before .before .before .good)
 
-loop-less : tie.Need-loop-less Inv-loop μ-loop
-loop-less c =
-    let f = width-few (hasValue (getD (c .before .before .before .before .before .before .before .before .before .before .before .before .before .before .before .before .before .before .before .before .before .before .before .before .before .args .codes .now) (c .before .before .before .before .before .before .before .before .before .before .before .before .before .before .before .before .before .loop .i) 0)) (c .width .result) (c .width .ensures) in
-    omega (arith, f .0, c .before .before .before .before .before .before .before .before .before .before .before .before .before .before .before .before .loop-test .taken)
+loop-less-2 : tie.Need-loop-less-2 Inv-loop μ-loop
+loop-less-2 c =
+    let f = width-few (hasValue (getD (c .before .before .before .before .before .before .before .before .before .before .before .before .before .before .before .before .before .before .before .before .before .before .before .before .before .before .args .codes .now) (c .before .before .before .before .before .before .before .before .before .before .before .before .before .before .before .before .before .before .loop .i) 0)) (c .width .result) (c .width .ensures) in
+    omega (arith, f .0, c .before .before .before .before .before .before .before .before .before .before .before .before .before .before .before .before .before .loop-test .taken)
 
-loop-again : tie.Need-loop-again Inv-loop μ-loop
-loop-again c =
-    let h = c .before .before .before .before .before .before .before .before .before .before .before .before .before .before .before .before .loop-test .taken in
-    let i = c .before .before .before .before .before .before .before .before .before .before .before .before .before .before .before .before .before .loop .inv in
+loop-again-2 : tie.Need-loop-again-2 Inv-loop μ-loop
+loop-again-2 c =
+    let h = c .before .before .before .before .before .before .before .before .before .before .before .before .before .before .before .before .before .loop-test .taken in
+    let i = c .before .before .before .before .before .before .before .before .before .before .before .before .before .before .before .before .before .before .loop .inv in
     let w = c .before .before .before .before .before .before .before .before .before .write-code in
     let v = c .before .before .before .before .before .before .before .before .before .before .u64-in .ensures .0 in (
       w .kept .0 ∙ i .0,
@@ -94,13 +129,17 @@ write-codes-spec =
     loop-holds
     mul-c
     shared-slice-read-c
+    write-word-requires
+    add-i
+    loop-less
+    loop-again
     add-u64-in
     u64-in-requires
     write-code-requires
     width-requires
-    add-i
-    loop-less
-    loop-again
+    add-i-2
+    loop-less-2
+    loop-again-2
     same-length
     same-length-2
     same-length-3

@@ -1,5 +1,5 @@
 -- `write::write_token` meets its contract.
--- The text in the rest of the list, then one store each of the end and the kind.
+-- The text in the rest of the list, then the end and the kind.
 use borrow.Author.Needs.{needs}
 use mathlib.Core.Path.{_≡_}
 use Prim.Native.Nat.{min}
@@ -36,53 +36,12 @@ write-text-requires c κs =
     let f = token-fits (a .tables .now) (a .rec .now) (a .c) (a .v) (a .text .now) (a .ends .now) (a .kinds .now) (a .p) (k .pre .0) (k .pre .1) in
     rest-room (a .p .text) (textIn (a .tables .now) (a .rec .now) (a .c) (a .v)) (a .text .now) (f .text)
 
-place-for-requires : tie.Need-place-for-requires
-place-for-requires c κs = search needs
-
-add-end : tie.Need-add-end
-add-end c =
-    let k = c .before .before .before .before .before .before .before .before .before .before in
+end-token-requires : tie.Need-end-token-requires
+end-token-requires c κs =
+    let k = c .before .before .before .before .before .before .before .before .before .before .before in
     let a = k .args in
     let f = token-fits (a .tables .now) (a .rec .now) (a .c) (a .v) (a .text .now) (a .ends .now) (a .kinds .now) (a .p) (k .pre .0) (k .pre .1) in
-    omega (arith, c .before .before .before .write-text .ensures .0)
-
-cast-ends : tie.Need-cast-ends
-cast-ends c =
-    let k = c .before .before .before .before .before .before .before .before .before .before in
-    let a = k .args in
-    let f = token-fits (a .tables .now) (a .rec .now) (a .c) (a .v) (a .text .now) (a .ends .now) (a .kinds .now) (a .p) (k .pre .0) (k .pre .1) in
-    omega (arith, c .before .before .before .write-text .ensures .0)
-
-mul-ends : tie.Need-mul-ends
-mul-ends c =
-    let k = c .before .before .before .before .before .before .before .before .before .before in
-    let a = k .args in
-    let f = token-fits (a .tables .now) (a .rec .now) (a .c) (a .v) (a .text .now) (a .ends .now) (a .kinds .now) (a .p) (k .pre .0) (k .pre .1) in
-    omega (arith, c .place-for .ensures, k .good)
-
-slice-write-ends : tie.Need-slice-write-ends
-slice-write-ends c =
-    let k = c .before .before .before .before .before .before .before .before .before .before in
-    let a = k .args in
-    let f = token-fits (a .tables .now) (a .rec .now) (a .c) (a .v) (a .text .now) (a .ends .now) (a .kinds .now) (a .p) (k .pre .0) (k .pre .1) in
-    omega (arith, c .place-for .ensures)
-
-cast-kinds : tie.Need-cast-kinds
-cast-kinds c = search needs
-
-slice-write-kinds : tie.Need-slice-write-kinds
-slice-write-kinds c =
-    let k = c .before .before .before .before .before .before .before .before .before .before in
-    let a = k .args in
-    let f = token-fits (a .tables .now) (a .rec .now) (a .c) (a .v) (a .text .now) (a .ends .now) (a .kinds .now) (a .p) (k .pre .0) (k .pre .1) in
-    omega (arith, c .place-for .ensures)
-
-add-t14 : tie.Need-add-t14
-add-t14 c =
-    let k = c .before .before .before .before .before .before .before .before .before .before in
-    let a = k .args in
-    let f = token-fits (a .tables .now) (a .rec .now) (a .c) (a .v) (a .text .now) (a .ends .now) (a .kinds .now) (a .p) (k .pre .0) (k .pre .1) in
-    omega (arith, c .place-for .ensures, k .good)
+    (omega (arith, f .small, c .before .before .before .before .write-text .ensures .0), ((f .end, f .kind), f .before))
 
 same-length : tie.Need-same-length
 same-length c = search needs
@@ -95,13 +54,14 @@ same-length-3 c = search needs
 
 returns : tie.Need-returns
 returns c =
-    let k = c .before .before .before .before .before .before .before .before .before .before in
+    let k = c .before .before .before .before .before .before .before .before .before .before .before .before .before .before .before .before in
     let a = k .args in
     let f = token-fits (a .tables .now) (a .rec .now) (a .c) (a .v) (a .text .now) (a .ends .now) (a .kinds .now) (a .p) (k .pre .0) (k .pre .1) in
-    let w = c .before .before .before .write-text .ensures in
-    let m : a .p .text ≡ min (a .p .text) (length (a .text .now)) = omega arith in
-    token-written (a .tables .now) (a .rec .now) (a .c) (a .v) (a .text .now) (a .ends .now) (a .kinds .now) (a .p) _ _ _ (k .pre .0) (w .0)
-    (put-rest (a .p .text) (a .p .text) (textIn (a .tables .now) (a .rec .now) (a .c) (a .v)) (a .text .now) _ m (w .1)) (c .place-for .ensures)
+    let w = c .before .before .before .before .before .before .before .before .before .write-text .ensures in
+    let e = c .before .before .before .before .end-token .ensures in
+    let m : a .p .text ≡ min (a .p .text) (length (a .text .now)) = omega (arith, f .text) in
+    token-written (a .tables .now) (a .rec .now) (a .c) (a .v) (a .text .now) (a .ends .now) (a .kinds .now) (a .p) _ _ _ _ _ (k .pre .0) (w .0)
+    (put-rest (a .p .text) (a .p .text) (textIn (a .tables .now) (a .rec .now) (a .c) (a .v)) (a .text .now) _ m (w .1)) (e .0 .0) (e .0 .1) (e .1)
 
 pub write-token-spec : {M : Type 1} → statement M
 write-token-spec =
@@ -111,14 +71,7 @@ write-token-spec =
     part-write-text-start
     part-write-text-end
     write-text-requires
-    place-for-requires
-    add-end
-    cast-ends
-    mul-ends
-    slice-write-ends
-    cast-kinds
-    slice-write-kinds
-    add-t14
+    end-token-requires
     same-length
     same-length-2
     same-length-3

@@ -1,4 +1,0 @@
-pub mod Bodies
-pub mod Commas
-pub mod Conditions
-pub mod Turns

@@ -1,4 +1,0 @@
-pub mod Entry
-pub mod Pieces
-pub mod SameText
-pub mod Tokens

@@ -1,2 +1,0 @@
-pub mod Alone
-pub mod Lent
