@@ -99,7 +99,7 @@ fn length_of(tables: &[u8], rec: &[u8], c: u64, v: u64) -> usize
 }
 
 // Byte j of the text of all codes of a list; past its end 0. k counts from the code at index i on.
-pub fn byte_at(tables: &[u8], rec: &[u8], codes: &[u64], j: usize) -> u8
+fn byte_at(tables: &[u8], rec: &[u8], codes: &[u64], j: usize) -> u8
     ensures { λ r. ⌜ r ≡ getD (spelled (decode (now (tables .entry)) (now (rec .entry)) (now (codes .entry)))) j 0 ⌝ }
 {
     let mut i = 0;

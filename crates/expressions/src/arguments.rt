@@ -49,7 +49,7 @@ pub fn written_after(isa: &[u8], mask: u16, body: &[u8]) -> u16
 }
 
 // Whether instruction i has mnemonic m and is not skipped.
-pub fn is_unskipped(isa: &[u8], bodies: &[u8], frame: u16, m: u8, i: u16) -> bool
+fn is_unskipped(isa: &[u8], bodies: &[u8], frame: u16, m: u8, i: u16) -> bool
     requires { ⌜ now isa ≡ isaBytes ⌝ }
     ensures { λ r. ⌜ r ≡ isUnskipped frame (now (bodies .entry)) m i ⌝ }
 {
@@ -74,7 +74,7 @@ fn code_nth(codes: &mut [u64], tables: &[u8], convention: u16, k: u8)
 }
 
 // With bits 64: the convention's registers up to the last one written.
-pub fn register_arguments(codes: &mut [u64], tables: &[u8], convention: u16, mask: u16)
+fn register_arguments(codes: &mut [u64], tables: &[u8], convention: u16, mask: u16)
     requires { ⌜ (5 ≤ length (now codes)) × (now tables ≡ tableBytes) ⌝ }
     ensures { λ _. ⌜ ((s : List ℕ) → Coded (now (tables .entry)) s (now (codes .entry)) (now (codes .exit)) (registerArguments convention mask)) ⌝ }
 {
@@ -125,7 +125,7 @@ fn code_pushed(
 }
 
 // With bits 32: the pushes since the last call that is not silent, the last one first.
-pub fn pushed_arguments(codes: &mut [u64], tables: &[u8], rec: &[u8], h: Header, first: u16, i: u16)
+fn pushed_arguments(codes: &mut [u64], tables: &[u8], rec: &[u8], h: Header, first: u16, i: u16)
     requires { ⌜ Lent (now codes) (now tables) h (now rec) ⌝ }
     ensures { λ _. ⌜ Coded (now (tables .entry)) (now (rec .entry)) (now (codes .entry)) (now (codes .exit)) (pushed h (now (rec .entry)) false (pushesBack (h .frame) (bodiesOf h (now (rec .entry))) first (i - first))) ⌝ }
 {

@@ -44,7 +44,7 @@ pub fn body_of(rec: &[u8], h: Header, i: u16) -> &[u8]
 }
 
 // The last instruction before i, from `first` on, that writes flags.
-pub fn flag_writer(isa: &[u8], bodies: &[u8], first: u16, i: u16) -> Found
+fn flag_writer(isa: &[u8], bodies: &[u8], first: u16, i: u16) -> Found
     requires { ⌜ now isa ≡ isaBytes ⌝ }
     ensures { λ r. ⌜ r ≡ flagWriter (now (bodies .entry)) first (i - first) ⌝ }
 {

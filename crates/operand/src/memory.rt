@@ -51,7 +51,7 @@ ghost use Rattle.codes.specs.Tables.{tableBytes};
 ghost use Rattle.operand.specs.Lent.{Lent};
 
 // The word that reads a segment register's memory.
-pub fn segment_word(seg: u8, size: u16) -> u8
+fn segment_word(seg: u8, size: u16) -> u8
     ensures { λ r. ⌜ wordToken r ≡ segmentWord seg size ⌝ }
 {
     if seg == 0x75 {
@@ -75,20 +75,20 @@ pub fn segment_word(seg: u8, size: u16) -> u8
 }
 
 // The prefix of a global of a size.
-pub fn prefix_word(size: u16) -> u8
+fn prefix_word(size: u16) -> u8
     ensures { λ r. ⌜ (wordToken r ≡ prefixWord size) × (r < 102) ⌝ }
 {
     BYTE + prefix_index(size)
 }
 
 // The word of a slot.
-pub fn slot_word(sp: bool, negative: bool) -> u8
+fn slot_word(sp: bool, negative: bool) -> u8
     ensures { λ r. ⌜ (wordToken r ≡ pick (sp || negative) (register "var_") (register "arg_")) × (r < 102) ⌝ }
 {
     if sp | negative { VAR } else { ARG }
 }
 
-pub fn registers_loose(h: Header, body: &[u8]) -> bool
+fn registers_loose(h: Header, body: &[u8]) -> bool
     ensures { λ r. ⌜ r ≡ registers h (now (body .entry)) .loose ⌝ }
 {
     if memory_index(body) == 0 {
@@ -101,13 +101,13 @@ pub fn registers_loose(h: Header, body: &[u8]) -> bool
 }
 
 // The word between registers and displacement.
-pub fn sign_word(negative: bool) -> u8
+fn sign_word(negative: bool) -> u8
     ensures { λ r. ⌜ wordToken r ≡ pick negative (punct " - ") (punct " + ") ⌝ }
 {
     if negative { MINUS } else { PLUS }
 }
 
-pub fn address_loose(h: Header, body: &[u8]) -> bool
+fn address_loose(h: Header, body: &[u8]) -> bool
     ensures { λ r. ⌜ r ≡ addressExpr h (now (body .entry)) .loose ⌝ }
 {
     let d = displacement(h, body);
@@ -118,20 +118,20 @@ pub fn address_loose(h: Header, body: &[u8]) -> bool
 }
 
 // The word of a size that is read.
-pub fn type_word(size: u16) -> u8
+fn type_word(size: u16) -> u8
     ensures { λ r. ⌜ wordToken r ≡ typeWord size ⌝ }
 {
     AT_U8 + size_index(size)
 }
 
-pub fn is_segment_read(body: &[u8]) -> bool
+fn is_segment_read(body: &[u8]) -> bool
     ensures { λ r. ⌜ r ≡ isSegmentRead (now (body .entry)) ⌝ }
 {
     let seg = memory_segment(body);
     ((seg == 0x74) | (seg == 0x75)) & (memory_base(body) == 0) & (memory_index(body) == 0)
 }
 
-pub fn is_global(body: &[u8]) -> bool
+fn is_global(body: &[u8]) -> bool
     ensures { λ r. ⌜ r ≡ isGlobal (now (body .entry)) ⌝ }
 {
     let base = memory_base(body);

@@ -27,7 +27,7 @@ ghost use Rattle.codes.specs.Coded.{Coded};
 ghost use Rattle.operand.specs.Lent.{Lent};
 
 // Whether an immediate is an address in a span.
-pub fn is_address(rec: &[u8], h: Header, v: u64) -> bool
+fn is_address(rec: &[u8], h: Header, v: u64) -> bool
     ensures { λ r. ⌜ r ≡ (leb 0x1000 v && inSpan h (now (rec .entry)) v) ⌝ }
 {
     if v < 0x1000 {
@@ -49,7 +49,7 @@ fn code_immediate(codes: &mut [u64], kind: u8, v: u64)
 }
 
 // An immediate: an address in a span by its name, before any sign is asked.
-pub fn immediate(codes: &mut [u64], tables: &[u8], rec: &[u8], h: Header, kind: u8, v: u64)
+fn immediate(codes: &mut [u64], tables: &[u8], rec: &[u8], h: Header, kind: u8, v: u64)
     requires { ⌜ Lent (now codes) (now tables) h (now rec) ⌝ }
     ensures { λ _. ⌜ Coded (now (tables .entry)) (now (rec .entry)) (now (codes .entry)) (now (codes .exit)) (immediate h (now (rec .entry)) kind v ∷ []) ⌝ }
 {
