@@ -10,4 +10,3 @@ pub mod OneToken
 pub mod Prefixed
 pub mod SpelledLaws
 pub mod TableLaws
-pub mod TableMade

@@ -81,7 +81,7 @@ isa-size : length isaBytes ≡ 2152
 unfolding isaBytes registerTable mnemonicTable conditionTable registerNames registerName mnemonicNames mnemonicName
 isa-size = refl
 
-pub table-size : length tableBytes ≡ 5416
+table-size : length tableBytes ≡ 5416
 unfolding tableBytes
 table-size = omega (arith, length-append wordBytes isaBytes, size, isa-size)
 

@@ -7,12 +7,10 @@ use lists::reads::u16_at;
 use lists::reads::u64_at;
 use x86::registers::missing_table;
 use x86::registers::register_known;
-use x86::registers::register_named;
-use x86::table::register_table;
 ghost use mathlib.Core.Path.{_≡_};
 ghost use Prim.Native.Nat.{_-_, _*_, _<_, _≤_};
 ghost use lib.ListN.{length};
-ghost use Rattle.x86.specs.Table.{registerTable, missingTable};
+ghost use Rattle.x86.specs.Table.{missingTable};
 ghost use Rattle.record.specs.Body.{addressAt, bodyAt, mnemonicOf, conditionOf, operandCount, skipMark, segmentOf, baseOf, indexOf, scaleOf, memorySize, memoryAddress, operandKind, registerByte, operandRegister, operandNumber, nameByte, conditionOk, scaleOk, operandOk, fixedOk, isName, isZeros, operandsOk, bodyOk, bodiesOk};
 
 pub fn address_at(addresses: &[u8], i: u16) -> u64
@@ -126,24 +124,24 @@ fn scale_ok(k: u8) -> bool
     (k == 1) | (k == 2) | (k == 4) | (k == 8)
 }
 
-fn fixed_ok(registers: &[u8], body: &[u8]) -> bool
-    requires { ⌜ now registers ≡ registerTable ⌝ }
+fn fixed_ok(missing: &[u8], body: &[u8]) -> bool
+    requires { ⌜ now missing ≡ missingTable ⌝ }
     ensures { λ r. ⌜ r ≡ fixedOk (now (body .entry)) ⌝ }
 {
     condition_ok(mnemonic(body), condition_code(body))
         & (op_count(body) <= 5)
         & (skip_mark(body) <= 1)
-        & register_named(registers, memory_segment(body))
-        & register_named(registers, memory_base(body))
-        & register_named(registers, memory_index(body))
+        & register_known(missing, memory_segment(body))
+        & register_known(missing, memory_base(body))
+        & register_known(missing, memory_index(body))
         & scale_ok(memory_index_scale(body))
 }
 
-fn operand_ok(registers: &[u8], body: &[u8], i: u8) -> bool
-    requires { ⌜ now registers ≡ registerTable ⌝ }
+fn operand_ok(missing: &[u8], body: &[u8], i: u8) -> bool
+    requires { ⌜ now missing ≡ missingTable ⌝ }
     ensures { λ r. ⌜ r ≡ operandOk (now (body .entry)) i ⌝ }
 {
-    (op_kind(body, i) <= 11) & register_named(registers, register_byte(body, i))
+    (op_kind(body, i) <= 11) & register_known(missing, register_byte(body, i))
 }
 
 fn name_byte(c: u8) -> bool
@@ -176,24 +174,24 @@ fn is_zeros(name: &[u8]) -> bool
     (u64_at(name, 0) == 0) & (u64_at(name, 8) == 0) & (u64_at(name, 16) == 0)
 }
 
-fn operands_ok(registers: &[u8], body: &[u8]) -> bool
-    requires { ⌜ now registers ≡ registerTable ⌝ }
+fn operands_ok(missing: &[u8], body: &[u8]) -> bool
+    requires { ⌜ now missing ≡ missingTable ⌝ }
     ensures { λ r. ⌜ r ≡ operandsOk (now (body .entry)) ⌝ }
 {
     let mut ok = true;
     let mut i: u8 = 0;
     while i < 5 {
-        ok = ok & operand_ok(registers, body, i);
+        ok = ok & operand_ok(missing, body, i);
         i += 1;
     }
     ok
 }
 
-fn body_ok(registers: &[u8], body: &[u8]) -> bool
-    requires { ⌜ now registers ≡ registerTable ⌝ }
+fn body_ok(missing: &[u8], body: &[u8]) -> bool
+    requires { ⌜ now missing ≡ missingTable ⌝ }
     ensures { λ r. ⌜ r ≡ bodyOk (now (body .entry)) ⌝ }
 {
-    let fixed = fixed_ok(registers, body) & operands_ok(registers, body);
+    let fixed = fixed_ok(missing, body) & operands_ok(missing, body);
     let name = from(body, 68);
     if mnemonic(body) == 0 {
         return fixed & is_name(name);
@@ -298,12 +296,12 @@ pub fn bodies_ok(bodies: &[u8], instructions: u16) -> bool
     if 92 * instructions as usize <= bodies.len() {
         return plain_bodies_ok(bodies, instructions);
     }
-    let table = register_table();
-    let registers: &[u8] = &table;
+    let table = missing_table();
+    let missing: &[u8] = &table;
     let mut ok = true;
     let mut i: u16 = 0;
     while i < instructions {
-        ok = ok & body_ok(registers, body_at(bodies, i));
+        ok = ok & body_ok(missing, body_at(bodies, i));
         i += 1;
     }
     ok

@@ -1,7 +1,7 @@
 -- The table holds at each number's place what the definitions say of that number.
 -- One test a column, which antt computes over all of its numbers, and one law that turns such a test into the rule at each number.
 use mathlib.Core.Path.{_≡_, refl, ap, ap₂, sym}
-use mathlib.Core.Bool.{Bool, true, false, not, Bool·beq}
+use mathlib.Core.Bool.{Bool, true, false, Bool·beq}
 use mathlib.Core.List.{List, [], _∷_}
 use Prim.Native.Nat.{ℕ, _+_, _*_, _≤_, _<_}
 use native.Mathlib.Decide.{decLt}
@@ -17,7 +17,7 @@ use Rattle.x86.specs.Table.{registerTable, missingTable, mnemonicTable, 
 use Rattle.x86.specs.Words.{sameWord}
 use Rattle.lists.specs.Every.{both-left, both-right, beq→eq}
 use Rattle.lists.specs.Below.{below-at}
-use Rattle.x86.proofs.Past.{not-there, whole-itself, no-size, no-flags, none-after-cmp, none-after-test, none-after-other, not-unsigned, stays}
+use Rattle.x86.proofs.Past.{whole-itself, no-size, no-flags, none-after-cmp, none-after-test, none-after-other, not-unsigned, stays}
 
 same-eq : (w v : List ℕ) → T (sameWord w v) → w ≡ v
 same-eq [] [] t = refl
@@ -37,18 +37,6 @@ column at f d n ok past t e k =
     elim (decLt k n) [
       | yes h ↦ rw (lt-ltb k n h, e) (eqb→eq _ _ (below-at (byteAt at f) n ok k h))
       | no h ↦ let g : n ≤ k = omega arith in rw (le-ltb k n g) (sym (past k g))
-    ]
-
--- a test of the name at each register's place: it has one just where the register exists
-abbrev named : ℕ → Bool
-named r = Bool·beq (not (eqb (getD registerTable (0 + 8 * r) 0) 0)) (registerExists r)
-
-pub register-named : (t : List ℕ) → t ≡ registerTable → (r : ℕ) → not (eqb (pick (ltb r 160) (getD t (0 + 8 * r) 0) 0) 0) ≡ registerExists r
-unfolding registerTable registerNames registerName registerExists
-register-named t e r =
-    elim (decLt r 160) [
-      | yes h ↦ rw (lt-ltb r 160 h, e) (beq→eq _ _ (below-at named 160 tt r h))
-      | no h ↦ let g : 160 ≤ r = omega arith in rw (le-ltb r 160 g, not-there r g)
     ]
 
 -- a test of each byte's place in the table of those that no register has

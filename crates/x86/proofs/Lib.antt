@@ -5,5 +5,4 @@ pub mod Rule
 pub mod Columns
 pub mod Past
 pub mod Positions
-pub mod Joined
 pub mod Written

@@ -3,13 +3,13 @@
 use mathlib.Core.Path.{_≡_}
 use mathlib.Core.Bool.{false, and-false}
 use mathlib.Core.List.{[]}
-use Prim.Native.Nat.{ℕ, _/_, _%_, _≤_}
+use Prim.Native.Nat.{ℕ, _/_, _≤_}
 use native.Mathlib.Omega.{arith}
-use borrow.Author.Tests.{lt-ltb, le-ltb, lt-leb, ne-eqb}
+use borrow.Author.Tests.{lt-ltb, lt-leb, ne-eqb}
 use lib.ListN.{List·getD-eq-default}
 use Rattle.x86.specs.Conditions.{conditionNames, conditionName, no-relation, relationAfterCmp, relationAfterTest, relationAfterOther, printsUnsigned, negate}
 use Rattle.x86.specs.Mnemonics.{mnemonicNames, mnemonicName, writesFlags}
-use Rattle.x86.specs.Registers.{registerNames, registerName, classSizes, registerExists, fullRegister, classBytes, registerSize}
+use Rattle.x86.specs.Registers.{registerNames, registerName, fullRegister, classBytes, registerSize}
 
 module _ (r : ℕ) (h : 160 ≤ r) where
   high : 10 ≤ r / 16
@@ -18,10 +18,6 @@ module _ (r : ℕ) (h : 160 ≤ r) where
   pub no-register : registerName r ≡ []
   unfolding registerNames registerName
   no-register = let c = high in simp (ne-eqb r 0 (omega arith), List·getD-eq-default registerNames [] c)
-
-  pub not-there : registerExists r ≡ false
-  unfolding registerExists
-  not-there = let c = high in simp (ne-eqb r 0 (omega arith), List·getD-eq-default classSizes 0 c, le-ltb (r % 16) 0 (omega arith))
 
   pub whole-itself : fullRegister r ≡ r
   unfolding fullRegister

@@ -1,7 +1,7 @@
 // Registers by number: class × 16 + index, 0 for none.
 ghost use mathlib.Core.Path.{_≡_};
 ghost use Rattle.x86.specs.Registers.{classSize, registerExists, fullRegister, registerSize, isStackPointer, calleeSaved};
-ghost use Rattle.x86.specs.Table.{registerTable, missingTable, isaBytes};
+ghost use Rattle.x86.specs.Table.{missingTable, isaBytes};
 use super::table::column;
 use lists::reads::plain_u8;
 
@@ -58,14 +58,6 @@ pub fn register_known(missing: &[u8], r: u8) -> bool
     ensures { λ b. ⌜ b ≡ registerExists r ⌝ }
 {
     plain_u8(missing, r as usize) == 0
-}
-
-// The same of a byte, by the table of registers: one that exists has a name.
-pub fn register_named(registers: &[u8], r: u8) -> bool
-    requires { ⌜ now registers ≡ registerTable ⌝ }
-    ensures { λ b. ⌜ b ≡ registerExists r ⌝ }
-{
-    column(registers, 0, 8, 160, r, 0) != 0
 }
 
 pub fn full_register(isa: &[u8], r: u8) -> u8

@@ -11,10 +11,10 @@ use Rattle.record.proofs.body.bodies_ok.Statement.{statement}
 use Rattle.record.proofs.body.bodies_ok.Tie as tie
 
 abbrev Inv-loop : tie.InvT-loop
-Inv-loop bodies instructions registers ok₀ i₀ ok i = (i ≤ instructions) × (ok ≡ allBelow (λ j. bodyOk (bodyAt bodies j)) i)
+Inv-loop bodies instructions missing ok₀ i₀ ok i = (i ≤ instructions) × (ok ≡ allBelow (λ j. bodyOk (bodyAt bodies j)) i)
 
 abbrev μ-loop : tie.MeasureT-loop
-μ-loop bodies instructions registers ok₀ i₀ ok i = instructions - i
+μ-loop bodies instructions missing ok₀ i₀ ok i = instructions - i
 
 mul-if1 : tie.Need-mul-if1 Inv-loop μ-loop
 mul-if1 c = search needs
@@ -25,11 +25,11 @@ plain-bodies-ok-requires c κs = search needs
 returns : tie.Need-returns Inv-loop μ-loop
 returns c = c .plain-bodies-ok .ensures
 
-register-table-requires : tie.Need-register-table-requires Inv-loop μ-loop
-register-table-requires c κs = search needs
+missing-table-requires : tie.Need-missing-table-requires Inv-loop μ-loop
+missing-table-requires c κs = search needs
 
-slice-aggregate-registers : tie.Need-slice-aggregate-registers Inv-loop μ-loop
-slice-aggregate-registers c = search needs
+slice-aggregate-missing : tie.Need-slice-aggregate-missing Inv-loop μ-loop
+slice-aggregate-missing c = search needs
 
 loop-holds : tie.Need-loop-holds Inv-loop μ-loop
 loop-holds c = search needs
@@ -38,7 +38,7 @@ body-at-requires : tie.Need-body-at-requires Inv-loop μ-loop
 body-at-requires c κs = search needs
 
 body-ok-requires : tie.Need-body-ok-requires Inv-loop μ-loop
-body-ok-requires c κs = (c .before .before .before .before .register-table) .ensures
+body-ok-requires c κs = (c .before .before .before .before .missing-table) .ensures
 
 add-i : tie.Need-add-i Inv-loop μ-loop
 add-i c = search needs
@@ -65,8 +65,8 @@ bodies-ok-spec =
     mul-if1
     plain-bodies-ok-requires
     returns
-    register-table-requires
-    slice-aggregate-registers
+    missing-table-requires
+    slice-aggregate-missing
     loop-holds
     body-at-requires
     body-ok-requires

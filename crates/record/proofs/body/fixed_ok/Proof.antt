@@ -23,20 +23,20 @@ skip-mark-requires c κs = search needs
 memory-segment-requires : tie.Need-memory-segment-requires
 memory-segment-requires c κs = search needs
 
-register-named-requires : tie.Need-register-named-requires
-register-named-requires c κs = search needs
+register-known-requires : tie.Need-register-known-requires
+register-known-requires c κs = search needs
 
 memory-base-requires : tie.Need-memory-base-requires
 memory-base-requires c κs = search needs
 
-register-named-requires-2 : tie.Need-register-named-requires-2
-register-named-requires-2 c κs = search needs
+register-known-requires-2 : tie.Need-register-known-requires-2
+register-known-requires-2 c κs = search needs
 
 memory-index-requires : tie.Need-memory-index-requires
 memory-index-requires c κs = search needs
 
-register-named-requires-3 : tie.Need-register-named-requires-3
-register-named-requires-3 c κs = search needs
+register-known-requires-3 : tie.Need-register-known-requires-3
+register-known-requires-3 c κs = search needs
 
 memory-index-scale-requires : tie.Need-memory-index-scale-requires
 memory-index-scale-requires c κs = search needs
@@ -50,11 +50,11 @@ returns c =
     simp (
       (c .scale-ok) .ensures,
       (c .before .memory-index-scale) .ensures,
-      (c .before .before .register-named3) .ensures,
+      (c .before .before .register-known3) .ensures,
       (c .before .before .before .memory-index) .ensures,
-      (c .before .before .before .before .register-named2) .ensures,
+      (c .before .before .before .before .register-known2) .ensures,
       (c .before .before .before .before .before .memory-base) .ensures,
-      (c .before .before .before .before .before .before .register-named) .ensures,
+      (c .before .before .before .before .before .before .register-known) .ensures,
       (c .before .before .before .before .before .before .before .memory-segment) .ensures,
       (c .before .before .before .before .before .before .before .before .skip-mark) .ensures,
       (c .before .before .before .before .before .before .before .before .before .op-count) .ensures,
@@ -73,11 +73,11 @@ fixed-ok-spec =
     op-count-requires
     skip-mark-requires
     memory-segment-requires
-    register-named-requires
+    register-known-requires
     memory-base-requires
-    register-named-requires-2
+    register-known-requires-2
     memory-index-requires
-    register-named-requires-3
+    register-known-requires-3
     memory-index-scale-requires
     scale-ok-requires
     returns)

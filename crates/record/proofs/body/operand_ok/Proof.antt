@@ -11,13 +11,13 @@ op-kind-requires c κs = search needs
 register-byte-requires : tie.Need-register-byte-requires
 register-byte-requires c κs = search needs
 
-register-named-requires : tie.Need-register-named-requires
-register-named-requires c κs = search needs
+register-known-requires : tie.Need-register-known-requires
+register-known-requires c κs = search needs
 
 returns : tie.Need-returns
 unfolding operandOk
-returns c = simp ((c .before .before .op-kind) .ensures, (c .register-named) .ensures, (c .before .register-byte) .ensures .0)
+returns c = simp ((c .before .before .op-kind) .ensures, (c .register-known) .ensures, (c .before .register-byte) .ensures .0)
 
 pub operand-ok-spec : {M : Type 1} → statement M
 operand-ok-spec =
-    tie.close (tie.spec op-kind-requires register-byte-requires register-named-requires returns)
+    tie.close (tie.spec op-kind-requires register-byte-requires register-known-requires returns)

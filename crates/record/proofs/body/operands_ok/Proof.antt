@@ -11,10 +11,10 @@ use Rattle.record.proofs.body.operands_ok.Statement.{statement}
 use Rattle.record.proofs.body.operands_ok.Tie as tie
 
 abbrev Inv-loop : tie.InvT-loop
-Inv-loop registers body ok₀ i₀ ok i = (i ≤ 5) × (ok ≡ allBelow (operandOk body) i)
+Inv-loop missing body ok₀ i₀ ok i = (i ≤ 5) × (ok ≡ allBelow (operandOk body) i)
 
 abbrev μ-loop : tie.MeasureT-loop
-μ-loop registers body ok₀ i₀ ok i = 5 - i
+μ-loop missing body ok₀ i₀ ok i = 5 - i
 
 loop-holds : tie.Need-loop-holds Inv-loop μ-loop
 loop-holds c = search needs
