@@ -12,32 +12,32 @@ use Rattle.lists.specs.Choice.{pick}
 use Rattle.text.specs.Number.{hexText, numText}
 use Rattle.text.specs.Literal.{literalText}
 use Rattle.tokens.specs.Token.{token}
-use Rattle.codes.specs.Code.{kindIn, joinsIn, whatIn, sizeIn, placeIn, bit, codeOf, hasValue, wordAt, textIn, event, decode}
+use Rattle.codes.specs.Code.{kindIn, joinsIn, whatIn, sizeIn, placeIn, codeOf, hasValue, wordAt, textIn, event, decode}
 use Rattle.codes.specs.Code.Event.{tok}
 
-bit-small : (b : Bool) → bit b ≤ 1
-bit-small true = omega arith
-bit-small false = omega arith
+one : (b : Bool) → pick b 0 1 ≤ 1
+one true = omega arith
+one false = omega arith
 
-pub bit-is : (b : Bool) → eqb (bit b) 1 ≡ b
-bit-is true = refl
-bit-is false = refl
+told : (b : Bool) → eqb (pick b 0 1) 0 ≡ b
+told true = refl
+told false = refl
 
 module _ (k : ℕ) (j : Bool) (w n at : ℕ) (hk : k < 8) (hw : w < 16) (hn : n < 65536) where
   pub kind-is : kindIn (codeOf k j w n at) ≡ k
-  kind-is = omega (arith, bit-small j)
+  kind-is = omega (arith, one j)
 
   pub joins-is : joinsIn (codeOf k j w n at) ≡ j
-  joins-is = let e : codeOf k j w n at / 8 % 2 ≡ bit j = omega (arith, bit-small j) in rw e (bit-is j)
+  joins-is = let e : codeOf k j w n at / 8 % 2 ≡ pick j 0 1 = omega (arith, one j) in rw e (told j)
 
   pub what-is : whatIn (codeOf k j w n at) ≡ w
-  what-is = omega (arith, bit-small j)
+  what-is = omega (arith, one j)
 
   pub size-is : sizeIn (codeOf k j w n at) ≡ n
-  size-is = omega (arith, bit-small j)
+  size-is = omega (arith, one j)
 
   pub place-is : placeIn (codeOf k j w n at) ≡ at
-  place-is = omega (arith, bit-small j)
+  place-is = omega (arith, one j)
 
 -- what a text is made of, of codes of a token of kind k
 module _ (t s : List ℕ) (k : ℕ) (j : Bool) (n at : ℕ) (hk : k < 8) (hn : n < 65536) (v : ℕ) where

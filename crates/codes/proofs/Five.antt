@@ -1,20 +1,20 @@
 -- What stores of the five numbers and of a code behind them leave.
 -- A list of five numbers or more is taken apart once; on it each law computes.
 use mathlib.Core.Path.{_≡_, refl, sym, ap, _∙_}
-use mathlib.Core.Bool.{Bool}
+use mathlib.Core.Bool.{Bool, true, false}
 use mathlib.Core.List.{List, [], _∷_}
 use Prim.Native.Nat.{ℕ, suc, _+_, _≤_}
 use native.Mathlib.Numerals.{add-one}
 use native.Mathlib.Omega.{arith}
+use lib.Dec.{eqb}
 use lib.ListN.{length, set}
 use lib.Seq.{set-out}
 use Rattle.lists.specs.Choice.{pick}
 use Rattle.lists.specs.Put.{put}
 use Rattle.lists.specs.PutLaws.{put-cons, put-none}
-use Rattle.codes.specs.Code.{bit, codeOf}
+use Rattle.codes.specs.Code.{codeOf}
 use Rattle.codes.specs.Coded.{wrap, bytesIn, tokensIn, countIn, lastIn, joinsLast, kindOn, Started, Plain, Added, Ended}
 use Rattle.codes.specs.State.{withToken}
-use Rattle.codes.proofs.Fields.{bit-is}
 
 taken-apart : (P : List ℕ → Type 0) → ((a b d l p : ℕ) (r : List ℕ) → P (a ∷ (b ∷ (d ∷ (l ∷ (p ∷ r)))))) → (c : List ℕ) → 5 ≤ length c → P c
 taken-apart P f [] h = absurd (omega arith)
@@ -29,11 +29,15 @@ started =
     taken-apart (λ c. Started (set (set (set (set (set c 0 0) 1 0) 2 0) 3 255) 4 0))
     (λ a b d l p r. record { no-bytes = refl; no-tokens = refl; no-codes = refl; last = refl; plain = refl })
 
-pub plain-set : (c : List ℕ) (x : ℕ) (b : Bool) → 5 ≤ length c → x ≡ bit b → Plain c (set c 4 x) b
+told : (b : Bool) → eqb (pick b 1 0) 1 ≡ b
+told true = refl
+told false = refl
+
+pub plain-set : (c : List ℕ) (x : ℕ) (b : Bool) → 5 ≤ length c → x ≡ pick b 1 0 → Plain c (set c 4 x) b
 plain-set c x b h e =
     rw e
-    (taken-apart (λ c. Plain c (set c 4 (bit b)) b)
-    (λ a b′ d l p r. record { same-bytes = refl; same-tokens = refl; same-count = refl; last = refl; now-plain = bit-is b; codes = refl }) c h)
+    (taken-apart (λ c. Plain c (set c 4 (pick b 1 0)) b)
+    (λ a b′ d l p r. record { same-bytes = refl; same-tokens = refl; same-count = refl; last = refl; now-plain = told b; codes = refl }) c h)
 
 pub token-counted : (c : List ℕ) (x f y z kind bytes n : ℕ) (joins : Bool) → x ≡ wrap (bytesIn c + bytes) → f ≡ pick joins 0 1 → y ≡ wrap (tokensIn c + f)
     → z ≡ wrap (countIn c + n) → set (set (set (set c 0 x) 1 y) 2 z) 3 kind ≡ withToken c kind joins bytes n
@@ -62,17 +66,17 @@ put-one r i x = rw (put-cons, put-none)
 put-two : (r : List ℕ) (i x v : ℕ) → set (set r i x) (suc i) v ≡ put i (x ∷ (v ∷ [])) r
 put-two r i x v = rw (put-cons, put-cons, put-none, add-one)
 
-pub ended : (c : List ℕ) (z : ℕ) (c′ : List ℕ) → 5 ≤ length c → z ≡ wrap (countIn c + 1) → c′ ≡ set (set (set c 2 z) 3 255) (5 + countIn c) 112 → Ended c c′
+pub ended : (c : List ℕ) (z : ℕ) (c′ : List ℕ) → 5 ≤ length c → z ≡ wrap (countIn c + 1) → c′ ≡ set (set (set c 2 z) 3 255) (5 + countIn c) 120 → Ended c c′
 ended c z c′ h e q =
     rw (q, e)
-    (taken-apart (λ c. Ended c (set (set (set c 2 (wrap (countIn c + 1))) 3 255) (5 + countIn c) 112))
+    (taken-apart (λ c. Ended c (set (set (set c 2 (wrap (countIn c + 1))) 3 255) (5 + countIn c) 120))
     (λ a b d l p r. rw (five d) (record {
       same-bytes = refl;
       same-tokens = refl;
       counted-codes = rw add-one;
       last = refl;
       plain = refl;
-      codes = put-one r d 112;
+      codes = put-one r d 120;
     })) c h)
 
 -- the code of a token, as it is stored on the list c

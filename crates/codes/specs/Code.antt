@@ -1,6 +1,6 @@
--- What token codes mean. A code is a number: bits 0 to 2 the token's kind, bit 3 whether it goes on with the token before, bits 4 to 7 what
--- its text is made of, bits 8 to 23 a size, from bit 24 on a place. Some have a value in the number behind them. t is the lent table,
--- s the record.
+-- What token codes mean. A code is a number: bits 0 to 2 the token's kind, bit 3 is 1 where it begins anew and 0 where it goes on with
+-- the token before, bits 4 to 7 what its text is made of, bits 8 to 23 a size, from bit 24 on a place. Some have a value in the number
+-- behind them. t is the lent table, s the record.
 use mathlib.Core.Bool.{Bool, true, false, _&&_}
 use mathlib.Core.List.{List, [], _∷_, _++_}
 use Prim.Native.Nat.{ℕ, suc, _+_, _*_, _/_, _%_}
@@ -15,7 +15,7 @@ abbrev pub kindIn : ℕ → ℕ
 kindIn c = c % 8
 
 abbrev pub joinsIn : ℕ → Bool
-joinsIn c = eqb (c / 8 % 2) 1
+joinsIn c = eqb (c / 8 % 2) 0
 
 abbrev pub whatIn : ℕ → ℕ
 whatIn c = c / 16 % 16
@@ -26,12 +26,8 @@ sizeIn c = c / 256 % 65536
 abbrev pub placeIn : ℕ → ℕ
 placeIn c = c / 16777216
 
-abbrev pub bit : Bool → ℕ
-bit true = 1
-bit false = 0
-
 abbrev pub codeOf : ℕ → Bool → ℕ → ℕ → ℕ → ℕ
-codeOf kind joins what size place = kind + 8 * bit joins + 16 * what + 256 * size + 16777216 * place
+codeOf kind joins what size place = kind + 8 * pick joins 0 1 + 16 * what + 256 * size + 16777216 * place
 
 -- what a text is made of
 abbrev pub ofTable : ℕ

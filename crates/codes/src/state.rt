@@ -6,7 +6,7 @@ ghost use Prim.Native.Nat.{_≤_, _<_, _+_};
 ghost use lib.Dec.{eqb};
 ghost use lib.ListN.{length, set};
 ghost use Rattle.lists.specs.Choice.{pick};
-ghost use Rattle.codes.specs.Code.{bit, codeOf};
+ghost use Rattle.codes.specs.Code.{codeOf};
 ghost use Rattle.codes.specs.Coded.{joinsLast, Started, Plain, Added, Ended};
 ghost use Rattle.codes.specs.State.{withToken};
 
@@ -23,7 +23,7 @@ pub fn start(codes: &mut [u64])
 }
 
 fn bit_of(b: bool) -> u64
-    ensures { λ r. ⌜ (r ≡ bit b) × (r ≤ 1) ⌝ }
+    ensures { λ r. ⌜ r ≡ pick b 1 0 ⌝ }
 {
     if b { 1 } else { 0 }
 }
@@ -56,7 +56,7 @@ fn joins_last(last: u64, k: u64) -> bool
 
 // How many tokens more there are.
 fn fresh_of(joins: bool) -> u64
-    ensures { λ r. ⌜ r ≡ pick joins 0 1 ⌝ }
+    ensures { λ r. ⌜ (r ≡ pick joins 0 1) × (r ≤ 1) ⌝ }
 {
     if joins { 0 } else { 1 }
 }
@@ -65,7 +65,7 @@ fn code_of(kind: u64, joins: bool, what: u8, size: u16, place: u32) -> u64
     requires { ⌜ (kind < 8) × (what < 16) ⌝ }
     ensures { λ r. ⌜ r ≡ codeOf kind joins what size place ⌝ }
 {
-    kind + 8 * bit_of(joins) + 16 * what as u64 + 256 * size as u64 + 16777216 * place as u64
+    kind + 8 * fresh_of(joins) + 16 * what as u64 + 256 * size as u64 + 16777216 * place as u64
 }
 
 // A token of so many bytes is counted, in n codes.
@@ -139,5 +139,5 @@ pub fn put_end(codes: &mut [u64])
     let i = codes[2];
     codes[2] = wrapping_add_u64(i, 1);
     codes[3] = 255;
-    store_code(codes, i, 112);
+    store_code(codes, i, 120);
 }

@@ -2,9 +2,10 @@
 -- Each is the definition at the event that the code stands for.
 use mathlib.Core.Path.{_≡_, refl, sym, ap, _∙_}
 use mathlib.Core.List.{List, []}
-use Prim.Native.Nat.{ℕ, _+_, _≤_, _<_}
+use Prim.Native.Nat.{ℕ, zero, suc, _+_, _-_, _≤_, _<_}
 use native.Mathlib.Numerals.{add-one}
 use native.Mathlib.Omega.{arith}
+use lib.Dec.{eqb}
 use lib.ListN.{length, set, getD, drop, drop-of-length-le}
 use Rattle.lists.specs.Choice.{pick}
 use Rattle.lists.specs.Put.{put}
@@ -49,6 +50,22 @@ module _ (t s : List ℕ) (c v : ℕ) where
         → page x e k (set l (p .lines) (p .tokens)) (record { text = p .text; tokens = p .tokens; lines = p .lines + 1 }) ≡ written (page x e k l p) (event t s c v)
     unfolding written behind
     end-written l h = rw (event-end t s c v h, add-one)
+
+-- the place for a token, by the bit that tells whether it begins: one that goes on has a token before it
+module _ (n l : ℕ) where
+  pub place-room : (b : ℕ) → b < 2 → placeFor (eqb b 0) n < l → n + b ≤ l
+  place-room zero h p = omega (arith, p)
+  place-room (suc zero) h p = omega (arith, p)
+  place-room (suc (suc b)) h p = absurd (omega arith)
+
+  pub place-there : (b : ℕ) → b < 2 → pick (eqb b 0) 1 0 ≤ n → 1 ≤ n + b
+  place-there zero h p = omega (arith, p)
+  place-there (suc b) h p = omega arith
+
+  pub place-is : (b : ℕ) → b < 2 → n + b - 1 ≡ placeFor (eqb b 0) n
+  place-is zero h = omega arith
+  place-is (suc zero) h = omega arith
+  place-is (suc (suc b)) h = absurd (omega arith)
 
 -- a text of the table is the same whatever the record and the next code
 module _ (t s : List ℕ) (c v : ℕ) (h : whatIn c ≡ ofTable) where

@@ -53,14 +53,6 @@ fn write_text(out: &mut [u8], tables: &[u8], rec: &[u8], c: u64, v: u64) -> usiz
     put_literal(out, what == 6, part(rec, at, n))
 }
 
-// The place of a token's end and kind; one that goes on has a token before it.
-fn place_for(joins: bool, tokens: usize) -> usize
-    requires { ⌜ pick joins 1 0 ≤ tokens ⌝ }
-    ensures { λ r. ⌜ r ≡ placeFor joins tokens ⌝ }
-{
-    if joins { tokens - 1 } else { tokens }
-}
-
 // The end and the kind of a token with n bytes: where it goes on with the one before they take that one's place.
 fn end_token(ends: &mut [u32], kinds: &mut [u8], p: Cursor, c: u64, n: usize) -> Cursor
     requires { ⌜ p .text + n < 4294967296 ⌝ }
@@ -70,7 +62,7 @@ fn end_token(ends: &mut [u32], kinds: &mut [u8], p: Cursor, c: u64, n: usize) ->
         × (now (kinds .exit) ≡ set (now (kinds .entry)) (placeFor (joinsIn c) (p .tokens)) (kindIn c)) ⌝ }
     ensures cursor { λ r. ⌜ r ≡ record { text = p .text + n; tokens = placeFor (joinsIn c) (p .tokens) + 1; lines = p .lines } ⌝ }
 {
-    let k = place_for(c / 8 % 2 == 1, p.tokens);
+    let k = p.tokens + (c / 8 % 2) as usize - 1;
     let end = p.text + n;
     ends[k] = end as u32;
     kinds[k] = (c % 8) as u8;

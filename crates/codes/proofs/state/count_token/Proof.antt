@@ -44,7 +44,7 @@ same-length : tie.Need-same-length
 same-length c = search needs
 
 returns : tie.Need-returns
-returns c = token-counted (c .before .before .before .before .before .before .before .before .args .codes .now) _ _ _ _ _ (c .before .before .before .before .before .before .before .before .args .bytes) (c .before .before .before .before .before .before .before .before .args .n) (c .before .before .before .before .before .before .before .before .args .joins) (c .before .before .before .before .before .wrapping-add-u64 .ensures) (c .before .before .before .fresh-of .ensures) (c .before .before .wrapping-add-u642 .ensures) (c .wrapping-add-u643 .ensures)
+returns c = token-counted (c .before .before .before .before .before .before .before .before .args .codes .now) _ _ _ _ _ (c .before .before .before .before .before .before .before .before .args .bytes) (c .before .before .before .before .before .before .before .before .args .n) (c .before .before .before .before .before .before .before .before .args .joins) (c .before .before .before .before .before .wrapping-add-u64 .ensures) (c .before .before .before .fresh-of .ensures .0) (c .before .before .wrapping-add-u642 .ensures) (c .wrapping-add-u643 .ensures)
 
 pub count-token-spec : {M : Type 1} → statement M
 count-token-spec =

@@ -15,7 +15,7 @@ same-length : tie.Need-same-length
 same-length c = search needs
 
 returns : tie.Need-returns
-returns c = plain-set _ _ _ (c .before .before .pre) (c .bit-of .ensures .0)
+returns c = plain-set _ _ _ (c .before .before .pre) (c .bit-of .ensures)
 
 pub set-plain-spec : {M : Type 1} → statement M
 set-plain-spec = tie.close (tie.spec bit-of-requires slice-write-codes same-length returns)

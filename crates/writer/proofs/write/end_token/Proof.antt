@@ -1,12 +1,22 @@
 -- `write::end_token` meets its contract.
 -- One store each of the end and the kind, in the place for them.
 use mathlib.Core.Path.{refl}
+use Prim.Native.Nat.{_/_, _%_}
+use native.Mathlib.Omega.{arith}
+use lib.ListN.{length}
 use borrow.Author.Needs.{needs}
+use Rattle.writer.proofs.PageLaws.{place-room, place-there, place-is}
 use Rattle.writer.proofs.write.end_token.Statement.{statement}
 use Rattle.writer.proofs.write.end_token.Tie as tie
 
-place-for-requires : tie.Need-place-for-requires
-place-for-requires c κs = search needs
+add-k : tie.Need-add-k
+add-k c =
+    let k = c .before in
+    let a = k .args in
+    omega (arith, place-room (a .p .tokens) (length (a .ends .now)) (a .c / 8 % 2) (omega arith) (k .pre .1 .0 .0), k .good)
+
+sub-k : tie.Need-sub-k
+sub-k c = let k = c .before in omega (arith, place-there (k .args .p .tokens) 0 (k .args .c / 8 % 2) (omega arith) (k .pre .1 .1))
 
 add-end : tie.Need-add-end
 add-end c = search needs
@@ -15,19 +25,25 @@ cast-ends : tie.Need-cast-ends
 cast-ends c = search needs
 
 mul-ends : tie.Need-mul-ends
-mul-ends c = search needs
+mul-ends c =
+    let k = c .before .before in
+    let a = k .args in
+    omega (arith, place-room (a .p .tokens) (length (a .ends .now)) (a .c / 8 % 2) (omega arith) (k .pre .1 .0 .0), k .good)
 
 slice-write-ends : tie.Need-slice-write-ends
-slice-write-ends c = search needs
+slice-write-ends c = let k = c .before .before in rw (place-is (k .args .p .tokens) 0 (k .args .c / 8 % 2) (omega arith)) (k .pre .1 .0 .0)
 
 cast-kinds : tie.Need-cast-kinds
 cast-kinds c = search needs
 
 slice-write-kinds : tie.Need-slice-write-kinds
-slice-write-kinds c = search needs
+slice-write-kinds c = let k = c .before .before in rw (place-is (k .args .p .tokens) 0 (k .args .c / 8 % 2) (omega arith)) (k .pre .1 .0 .1)
 
-add-t12 : tie.Need-add-t12
-add-t12 c = search needs
+add-t10 : tie.Need-add-t10
+add-t10 c =
+    let k = c .before .before in
+    let a = k .args in
+    omega (arith, place-room (a .p .tokens) (length (a .ends .now)) (a .c / 8 % 2) (omega arith) (k .pre .1 .0 .0), k .good)
 
 same-length : tie.Need-same-length
 same-length c = search needs
@@ -36,20 +52,21 @@ same-length-2 : tie.Need-same-length-2
 same-length-2 c = search needs
 
 returns : tie.Need-returns
-returns c = rw (c .before .place-for .ensures) ((refl, refl), refl)
+returns c = let a = c .before .before .args in rw (place-is (a .p .tokens) 0 (a .c / 8 % 2) (omega arith)) ((refl, refl), refl)
 
 pub end-token-spec : {M : Type 1} → statement M
 end-token-spec =
     tie.close
     (tie.spec
-    place-for-requires
+    add-k
+    sub-k
     add-end
     cast-ends
     mul-ends
     slice-write-ends
     cast-kinds
     slice-write-kinds
-    add-t12
+    add-t10
     same-length
     same-length-2
     returns)
