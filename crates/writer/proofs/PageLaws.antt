@@ -7,6 +7,7 @@ use native.Mathlib.Numerals.{add-one}
 use native.Mathlib.Omega.{arith}
 use lib.Dec.{eqb}
 use lib.ListN.{length, set, getD, drop, drop-of-length-le}
+use borrow.Author.Tests.{le-leb, lt-leb}
 use Rattle.lists.specs.Choice.{pick}
 use Rattle.lists.specs.Put.{put}
 use Rattle.tokens.specs.Token.{token}
@@ -46,10 +47,14 @@ module _ (t s : List ℕ) (c v : ℕ) where
     unfolding written behind
     token-written x′ e′ k′ q n h a b d f g l = rw (event-token t s c v h, b, d, f, g, a, add-one)
 
-    pub end-written : (l : List ℕ) → 7 ≤ whatIn c
-        → page x e k (set l (p .lines) (p .tokens)) (record { text = p .text; tokens = p .tokens; lines = p .lines + 1 }) ≡ written (page x e k l p) (event t s c v)
-    unfolding written behind
-    end-written l h = rw (event-end t s c v h, add-one)
+  pub end-written : (P P′ : Page) → 7 ≤ whatIn c → P′ ≡ written P end → P′ ≡ written P (event t s c v)
+  end-written P P′ h w = w ∙ ap (written P) (sym (event-end t s c v h))
+
+-- a line more
+pub line-ended : (x e k l : List ℕ) (p : Cursor)
+    → page x e k (set l (p .lines) (p .tokens)) (record { text = p .text; tokens = p .tokens; lines = p .lines + 1 }) ≡ written (page x e k l p) end
+unfolding written behind
+line-ended x e k l p = rw add-one
 
 -- the place for a token, by the bit that tells whether it begins: one that goes on has a token before it
 module _ (n l : ℕ) where
@@ -82,6 +87,9 @@ module _ (t s : List ℕ) (c v : ℕ) (h : whatIn c ≡ ofTable) where
 
 pub word-width : (c : ℕ) → whatIn c ≡ ofTable → _≡_ {A = ℕ} 1 (pick (hasValue c) 2 1)
 word-width c h = rw h
+
+pub end-width : (c : ℕ) → 7 ≤ whatIn c → _≡_ {A = ℕ} 1 (pick (hasValue c) 2 1)
+end-width c h = rw (le-leb 2 (whatIn c) (omega arith), lt-leb (whatIn c) 4 (omega arith))
 
 pub written-at : (P : Page) (e : Event) → written P e .at ≡ behind (P .at) e
 unfolding written

@@ -16,6 +16,7 @@ ghost use Rattle.lists.specs.Choice.{pick};
 ghost use Rattle.lists.specs.Put.{put};
 ghost use Rattle.tokens.specs.Token.{Token};
 ghost use Rattle.codes.specs.Code.{kindIn, joinsIn, whatIn, ofTable, textIn, event, decode};
+ghost use Rattle.codes.specs.Code.Event.{end};
 ghost use Rattle.codes.specs.Lines.{ofLines};
 ghost use Rattle.writer.specs.Written.{page, placeFor, written, onPage, Fits, Room, start, Listed, Ready};
 
@@ -118,25 +119,11 @@ fn write_word(
     end_token(ends, kinds, p, c, n)
 }
 
-// One code with its value.
-fn write_code(
-    text: &mut [u8],
-    ends: &mut [u32],
-    kinds: &mut [u8],
-    lines: &mut [u32],
-    p: Cursor,
-    tables: &[u8],
-    rec: &[u8],
-    c: u64,
-    v: u64,
-) -> Cursor
-    requires { ⌜ Fits (length (now text)) (length (now ends)) (length (now kinds)) (length (now lines)) p (event (now tables) (now rec) c v) ⌝ }
-    ensures { λ r. ⌜ page (now (text .exit)) (now (ends .exit)) (now (kinds .exit)) (now (lines .exit)) r
-        ≡ written (page (now (text .entry)) (now (ends .entry)) (now (kinds .entry)) (now (lines .entry)) p) (event (now (tables .entry)) (now (rec .entry)) c v) ⌝ }
+// The end of a line.
+fn end_line(lines: &mut [u32], p: Cursor) -> Cursor
+    requires { ⌜ (p .lines < length (now lines)) × (p .tokens < 4294967296) ⌝ }
+    ensures { λ r. ⌜ ((x e k : List ℕ) → page x e k (now (lines .exit)) r ≡ written (page x e k (now (lines .entry)) p) end) ⌝ }
 {
-    if c / 16 % 16 < 7 {
-        return write_token(text, ends, kinds, p, tables, rec, c, v);
-    }
     let i = p.lines;
     lines[i] = p.tokens as u32;
     Cursor {
@@ -165,21 +152,15 @@ pub fn write_codes(
     let mut i = 0;
     while i < codes.len() {
         let c = codes[i];
-        if c / 16 % 16 == 0 {
+        let what = c / 16 % 16;
+        if what == 0 {
             r = write_word(text, ends, kinds, r, tables, c);
             i += 1;
+        } else if 7 <= what {
+            r = end_line(lines, r);
+            i += 1;
         } else {
-            r = write_code(
-                text,
-                ends,
-                kinds,
-                lines,
-                r,
-                tables,
-                rec,
-                c,
-                u64_in(codes, i + 1),
-            );
+            r = write_token(text, ends, kinds, r, tables, rec, c, u64_in(codes, i + 1));
             i += width(c);
         }
     }

@@ -8,7 +8,7 @@ use lib.ListN.{length, drop, getD}
 use Rattle.codes.specs.Code.{hasValue, decode}
 use Rattle.writer.specs.Written.{page, onPage, Room}
 use Rattle.codes.proofs.Decoded.{width-few}
-use Rattle.writer.proofs.PageLaws.{word-fits, word-written, word-width, turn, turn-room, room-at, done}
+use Rattle.writer.proofs.PageLaws.{fits-lines, end-fits, end-written, end-width, word-fits, word-written, word-width, turn, turn-room, room-at, done}
 use Rattle.writer.proofs.write.write_codes.Statement.{statement}
 use Rattle.writer.proofs.write.write_codes.Tie as tie
 
@@ -65,44 +65,80 @@ loop-again c =
       turn-room _ _ _ _ _ v h n refl _ _ _ _ _ _ _ _ _ _ q (w .kept .0) (w .kept .1 .0) (w .kept .1 .1 .0) refl (l .inv .5),
     )
 
+end-line-requires : tie.Need-end-line-requires Inv-loop μ-loop
+end-line-requires c κs =
+    let a = (c .before .before .before .before .before .before .before .before .before .before .before .before .before .args) in
+    let l = (c .before .before .before .before .before .loop) in
+    let v = getD (a .codes .now) (l .i + 1) 0 in
+    end-fits (a .tables .now) (a .rec .now) (getD (a .codes .now) (l .i) 0) v (l .text) (l .ends) (l .kinds) (l .r) (l .lines) (c .before .if2 .taken)
+    (room-at (a .tables .now) (a .rec .now) (a .codes .now) (l .i) v (c .before .before .before .before .loop-test .taken) refl (length (l .text)) (length (l .ends)) (length (l .kinds)) (length (l .lines)) (l .r) (l .inv .5))
+
+add-i-2 : tie.Need-add-i-2 Inv-loop μ-loop
+add-i-2 c = omega (arith, (c .before .before .before .before .before .before .before .loop-test .taken), (c .before .before .before .before .before .before .before .before .before .before .before .before .before .before .before .before .good))
+
+loop-less-2 : tie.Need-loop-less-2 Inv-loop μ-loop
+loop-less-2 c = omega (arith, (c .before .before .before .before .before .before .before .loop-test .taken))
+
+loop-again-2 : tie.Need-loop-again-2 Inv-loop μ-loop
+loop-again-2 c =
+    let a = (c .before .before .before .before .before .before .before .before .before .before .before .before .before .before .before .before .args) in
+    let l = (c .before .before .before .before .before .before .before .before .loop) in
+    let h = (c .before .before .before .before .before .before .before .loop-test .taken) in
+    let g = (c .before .before .before .before .if2 .taken) in
+    let w = (c .before .before .end-line) in
+    let n = end-width (getD (a .codes .now) (l .i) 0) g in
+    let v = getD (a .codes .now) (l .i + 1) 0 in
+    let q = end-written (a .tables .now) (a .rec .now) (getD (a .codes .now) (l .i) 0) v (page (l .text) (l .ends) (l .kinds) (l .lines) (l .r)) _ g (w .ensures (l .text) (l .ends) (l .kinds)) in (
+      l .inv .0,
+      l .inv .1,
+      l .inv .2,
+      w .kept .0 ∙ l .inv .3,
+      turn _ _ _ _ _ v h n refl _ _ _ _ _ _ _ _ _ _ q ∙ l .inv .4,
+      turn-room _ _ _ _ _ v h n refl _ _ _ _ _ _ _ _ _ _ q refl refl refl (w .kept .0) (l .inv .5),
+    )
+
 add-u64-in : tie.Need-add-u64-in Inv-loop μ-loop
 add-u64-in c = omega (arith, c .before .before .before .before .before .before .loop-test .taken, c .before .before .before .before .before .before .before .before .before .before .before .before .before .before .before .good)
 
 u64-in-requires : tie.Need-u64-in-requires Inv-loop μ-loop
 u64-in-requires c κs = search needs
 
-write-code-requires : tie.Need-write-code-requires Inv-loop μ-loop
-write-code-requires c κs =
-    let a = c .before .before .before .before .before .before .before .before .before .before .before .before .before .before .before .before .args in
-    let l = c .before .before .before .before .before .before .before .before .loop in
-    room-at (a .tables .now) (a .rec .now) (a .codes .now) (l .i) (c .u64-in .result) (c .before .before .before .before .before .before .before .loop-test .taken) (c .u64-in .ensures .0)
-    (length (l .text)) (length (l .ends)) (length (l .kinds)) (length (l .lines)) (l .r) (l .inv .5)
+write-token-requires : tie.Need-write-token-requires Inv-loop μ-loop
+write-token-requires c κs =
+    let a = (c .before .before .before .before .before .before .before .before .before .before .before .before .before .before .before .before .args) in
+    let l = (c .before .before .before .before .before .before .before .before .loop) in
+    let g = (c .before .before .before .before .if2 .left) in (
+      g,
+      fits-lines (a .tables .now) (a .rec .now) (getD (a .codes .now) (l .i) 0) ((c .u64-in .result)) (l .text) (l .ends) (l .kinds) (l .r) (length (l .lines)) g
+          (room-at (a .tables .now) (a .rec .now) (a .codes .now) (l .i) ((c .u64-in .result)) (c .before .before .before .before .before .before .before .loop-test .taken) ((c .u64-in .ensures) .0) (length (l .text)) (length (l .ends)) (length (l .kinds)) (length (l .lines)) (l .r) (l .inv .5)),
+    )
 
 width-requires : tie.Need-width-requires Inv-loop μ-loop
 width-requires c κs = search needs
 
-add-i-2 : tie.Need-add-i-2 Inv-loop μ-loop
-add-i-2 c =
-    let f = width-few (hasValue (getD (c .before .before .before .before .before .before .before .before .before .before .before .before .before .before .before .before .before .before .before .before .before .before .before .before .before .before .args .codes .now) (c .before .before .before .before .before .before .before .before .before .before .before .before .before .before .before .before .before .before .loop .i) 0)) (c .width .result) (c .width .ensures) in
-    omega (arith, f .1, c .before .before .before .before .before .before .before .before .before .before .before .before .before .before .before .before .before .loop-test .taken, c .before .before .before .before .before .before .before .before .before .before .before .before .before .before .before .before .before .before .before .before .before .before .before .before .before .before .good)
+add-i-3 : tie.Need-add-i-3 Inv-loop μ-loop
+add-i-3 c =
+    let f = width-few (hasValue (getD ((c .before .before .before .before .before .before .before .before .before .before .before .before .before .before .before .before .before .before .before .before .before .before .before .before .args .codes) .now) ((c .before .before .before .before .before .before .before .before .before .before .before .before .before .before .before .before .loop .i)) 0)) ((c .width .result)) ((c .width .ensures)) in
+    omega (arith, f .1, (c .before .before .before .before .before .before .before .before .before .before .before .before .before .before .before .loop-test .taken), (c .before .before .before .before .before .before .before .before .before .before .before .before .before .before .before .before .before .before .before .before .before .before .before .before .good))
 
-loop-less-2 : tie.Need-loop-less-2 Inv-loop μ-loop
-loop-less-2 c =
-    let f = width-few (hasValue (getD (c .before .before .before .before .before .before .before .before .before .before .before .before .before .before .before .before .before .before .before .before .before .before .before .before .before .before .args .codes .now) (c .before .before .before .before .before .before .before .before .before .before .before .before .before .before .before .before .before .before .loop .i) 0)) (c .width .result) (c .width .ensures) in
-    omega (arith, f .0, c .before .before .before .before .before .before .before .before .before .before .before .before .before .before .before .before .before .loop-test .taken)
+loop-less-3 : tie.Need-loop-less-3 Inv-loop μ-loop
+loop-less-3 c =
+    let f = width-few (hasValue (getD ((c .before .before .before .before .before .before .before .before .before .before .before .before .before .before .before .before .before .before .before .before .before .before .before .before .args .codes) .now) ((c .before .before .before .before .before .before .before .before .before .before .before .before .before .before .before .before .loop .i)) 0)) ((c .width .result)) ((c .width .ensures)) in
+    omega (arith, f .0, (c .before .before .before .before .before .before .before .before .before .before .before .before .before .before .before .loop-test .taken))
 
-loop-again-2 : tie.Need-loop-again-2 Inv-loop μ-loop
-loop-again-2 c =
-    let h = c .before .before .before .before .before .before .before .before .before .before .before .before .before .before .before .before .before .loop-test .taken in
-    let i = c .before .before .before .before .before .before .before .before .before .before .before .before .before .before .before .before .before .before .loop .inv in
-    let w = c .before .before .before .before .before .before .before .before .before .write-code in
-    let v = c .before .before .before .before .before .before .before .before .before .before .u64-in .ensures .0 in (
-      w .kept .0 ∙ i .0,
-      w .kept .1 .0 ∙ i .1,
-      w .kept .1 .1 .0 ∙ i .2,
-      w .kept .1 .1 .1 .0 ∙ i .3,
-      turn _ _ _ _ _ _ h (c .width .ensures) v _ _ _ _ _ _ _ _ _ _ (w .ensures) ∙ i .4,
-      turn-room _ _ _ _ _ _ h (c .width .ensures) v _ _ _ _ _ _ _ _ _ _ (w .ensures) (w .kept .0) (w .kept .1 .0) (w .kept .1 .1 .0) (w .kept .1 .1 .1 .0) (i .5),
+loop-again-3 : tie.Need-loop-again-3 Inv-loop μ-loop
+loop-again-3 c =
+    let h = (c .before .before .before .before .before .before .before .before .before .before .before .before .before .before .before .loop-test .taken) in
+    let l = (c .before .before .before .before .before .before .before .before .before .before .before .before .before .before .before .before .loop) in
+    let w = (c .before .before .before .before .before .before .before .write-token) in
+    let v = (c .before .before .before .before .before .before .before .before .u64-in .ensures) .0 in
+    let n = (c .width .ensures) in (
+      w .kept .0 ∙ l .inv .0,
+      w .kept .1 .0 ∙ l .inv .1,
+      w .kept .1 .1 .0 ∙ l .inv .2,
+      l .inv .3,
+      turn _ _ _ _ _ _ h n v _ _ _ _ _ _ _ _ _ _ (w .ensures (l .lines)) ∙ l .inv .4,
+      turn-room _ _ _ _ _ _ h n v _ _ _ _ _ _ _ _ _ _ (w .ensures (l .lines)) (w .kept .0) (w .kept .1 .0) (w .kept .1 .1 .0) refl (l .inv .5),
     )
 
 same-length : tie.Need-same-length Inv-loop μ-loop
@@ -133,13 +169,17 @@ write-codes-spec =
     add-i
     loop-less
     loop-again
-    add-u64-in
-    u64-in-requires
-    write-code-requires
-    width-requires
+    end-line-requires
     add-i-2
     loop-less-2
     loop-again-2
+    add-u64-in
+    u64-in-requires
+    write-token-requires
+    width-requires
+    add-i-3
+    loop-less-3
+    loop-again-3
     same-length
     same-length-2
     same-length-3
