@@ -33,8 +33,9 @@ use Rattle.line.specs.Forms.Piece.{arguments}
 use Rattle.line.specs.Forms.Form.{set-condition, move-if, call-target, call-memory, call-through, tail-call-target}
 use Rattle.line.specs.Print.{pieceTokens, piecesTokens, siteOf, lineTokens, maskAfter, printed}
 use Rattle.line.specs.Shown.{EachLine, ConditionShown, ConditionsShown, endsInCall, shownAs, shown, ArgumentsShown, CallsShown}
+use Rattle.line.proofs.PlainForms.{form-call, form-jmp}
 
--- the forms of setcc and cmovcc, of a call and of a jmp
+-- the forms of setcc and cmovcc
 form-setcc : (v : Bool) (b : List ℕ) → mnemonicOf b ≡ mnemonic.setcc → insnForm v b ≡ set-condition
 unfolding insnForm plainForm
 form-setcc v b e = rw e
@@ -42,14 +43,6 @@ form-setcc v b e = rw e
 form-cmovcc : (v : Bool) (b : List ℕ) → mnemonicOf b ≡ mnemonic.cmovcc → insnForm v b ≡ move-if
 unfolding insnForm plainForm
 form-cmovcc v b e = rw e
-
-form-call : (v : Bool) (b : List ℕ) → mnemonicOf b ≡ mnemonic.call → insnForm v b ≡ callForm b
-unfolding insnForm
-form-call v b e = rw e
-
-form-jmp : (v : Bool) (b : List ℕ) → mnemonicOf b ≡ mnemonic.jmp → insnForm v b ≡ jumpForm b
-unfolding insnForm
-form-jmp v b e = rw e
 
 module _ (h : Header) (s : List ℕ) (c : Site) where
   -- the tokens of a form's row
@@ -114,10 +107,10 @@ insn-row : (v : Bool) (b : List ℕ) → (eqb (mnemonicOf b) mnemonic.call || (e
 insn-row v b t = by (eqb (mnemonicOf b) mnemonic.call) refl t
   where
     by : (x : Bool) → eqb (mnemonicOf b) mnemonic.call ≡ x → (x || (eqb (mnemonicOf b) mnemonic.jmp && eqb (operandKind b 0) 1)) ≡ true → CallRow (insnForm v b)
-    by true e t = rw (form-call v b (eqb-true (mnemonicOf b) mnemonic.call e)) (call-row b)
+    by true e t = rw (form-call v b _ refl (eqb-true (mnemonicOf b) mnemonic.call e)) (call-row b)
     by false e t =
         let q = both-yes (eqb (mnemonicOf b) mnemonic.jmp) (eqb (operandKind b 0) 1) t in
-        rw (form-jmp v b (eqb-true (mnemonicOf b) mnemonic.jmp (q .0))) (jmp-row b (eqb-true (operandKind b 0) 1 (q .1)))
+        rw (form-jmp v b _ refl (eqb-true (mnemonicOf b) mnemonic.jmp (q .0))) (jmp-row b (eqb-true (operandKind b 0) 1 (q .1)))
 
 -- the form of a line that ends in a call has such a row
 line-row : (h : Header) (s : List ℕ) (w : What) (first i : ℕ) → endsInCall w (bodyOf h s i) ≡ true → CallRow (formOf h s w first i)

@@ -1,19 +1,18 @@
--- The code's table of rows and the specification's are one, and its numbers stand for the pieces of each form.
--- One equation of the whole table, computed, gives the rule at each row; behind the last row both are empty. Each form by itself.
+-- The code's table has the specification's rows, whose numbers stand for the pieces of each form, and behind them the byte of each mnemonic.
+-- One equation of the whole table, computed, gives the rule at each row and at each mnemonic. Each form by itself.
 use mathlib.Core.Path.{_≡_, refl, sym, ap, _∙_}
 use mathlib.Core.Bool.{Bool}
 use mathlib.Core.List.{List, [], map}
-use Prim.Native.Nat.{ℕ, _+_, _*_, _≤_}
-use native.Mathlib.Decide.{decLt}
-use native.Mathlib.Omega.{arith}
-use lib.Dec.{T}
-use lib.ListN.{length, getD, take, drop, List·getD-eq-default}
+use Prim.Native.Nat.{ℕ, _+_, _*_, _<_}
+use lib.Dec.{T, ltb, ltb→lt}
+use lib.ListN.{length, getD, take, drop}
+use lib.Seq.{getD-drop}
 use Rattle.lists.specs.Entries.{tab, entry}
 use Rattle.lists.specs.Every.{every, every-at}
 use Rattle.tokens.specs.Words.{wordToken, words}
 use Rattle.line.specs.Forms.{Piece, Form, rowOf}
 use Rattle.line.specs.Forms.Form.{assign, cast-u32, cast-u64, cast-i32, cast-i64, take-address, store-zero, store-ones, add-to, subtract, and-with, or-with, xor-with, shift-left, shift-right, rotate-left, rotate-right, increment, decrement, negation, complement, multiply-two, multiply-by, pop-value, call-target, call-memory, call-through, return-value, return-nothing, tail-call-memory, computed-jump, set-condition, move-if, compare-exchange, exchange-first, exchange-second, time-stamp, cpu-identify, fast-fail, assembly-line, label, open-do, open-if, goto-if, close-while, close, goto, tail-call-target}
-use Rattle.line.specs.Codes.{pieceOf, formNumber, codes, codesOf, rowBytes}
+use Rattle.line.specs.Codes.{pieceOf, formNumber, codes, codesOf, formByte, rowBytes}
 
 -- what the code reads of a table as row k
 abbrev rowIn : List ℕ → ℕ → List ℕ
@@ -23,79 +22,82 @@ whole : tab (rowIn rowBytes) 0 48 ≡ codes
 unfolding rowBytes codes
 whole = refl
 
-size : length rowBytes ≡ 768
+size : length rowBytes ≡ 1024
 unfolding rowBytes codes
 size = refl
 
-count : length codes ≡ 48
-unfolding codes
-count = refl
+pub size-of : (t : List ℕ) → t ≡ rowBytes → length t ≡ 1024
+size-of t e = ap length e ∙ size
 
-past : (t : List ℕ) (k : ℕ) → length t ≤ 16 * k → rowIn t k ≡ []
-past t k h = rw (List·getD-eq-default t 0 {n = 16 * k} (omega arith))
-
-row-in : (k : ℕ) → rowIn rowBytes k ≡ codesOf k
+pub codes-in : (t : List ℕ) (k : ℕ) → t ≡ rowBytes → k < 48 → rowIn t k ≡ codesOf k
 unfolding codesOf
-row-in k =
-    elim (decLt k 48) [
-      | yes h ↦ entry (rowIn rowBytes) 48 codes [] whole k h
-      | no h ↦ past rowBytes k (omega (arith, size)) ∙ sym (List·getD-eq-default codes [] (omega (arith, count)))
-    ]
+codes-in t k e h = ap (λ (l : List ℕ). rowIn l k) e ∙ entry (rowIn rowBytes) 48 codes [] whole k h
 
-pub codes-in : (t : List ℕ) (k : ℕ) → t ≡ rowBytes → rowIn t k ≡ codesOf k
-codes-in t k e = ap (λ (l : List ℕ). rowIn l k) e ∙ row-in k
+-- the byte of each mnemonic
+behind : drop 768 rowBytes ≡ tab formByte 0 256
+unfolding rowBytes codes
+behind = refl
 
--- the numbers of a form's row stand for its pieces
-pub pieces-are : (f : Form) → map pieceOf (codesOf (formNumber f)) ≡ rowOf f
+pub byte-in : (m : ℕ) → m < 256 → getD rowBytes (768 + m) 0 ≡ formByte m
+byte-in m l = sym (getD-drop 768 rowBytes m 0) ∙ sym (entry formByte 256 (drop 768 rowBytes) 0 (sym behind) m l)
+
+-- each form's number is a row's, and the numbers there stand for its pieces
+numbered : (f : Form) → T (ltb (formNumber f) 48) × (map pieceOf (codesOf (formNumber f)) ≡ rowOf f)
 unfolding codesOf codes formNumber pieceOf wordToken words rowOf
-pieces-are assign = refl
-pieces-are cast-u32 = refl
-pieces-are cast-u64 = refl
-pieces-are cast-i32 = refl
-pieces-are cast-i64 = refl
-pieces-are take-address = refl
-pieces-are store-zero = refl
-pieces-are store-ones = refl
-pieces-are add-to = refl
-pieces-are subtract = refl
-pieces-are and-with = refl
-pieces-are or-with = refl
-pieces-are xor-with = refl
-pieces-are shift-left = refl
-pieces-are shift-right = refl
-pieces-are rotate-left = refl
-pieces-are rotate-right = refl
-pieces-are increment = refl
-pieces-are decrement = refl
-pieces-are negation = refl
-pieces-are complement = refl
-pieces-are multiply-two = refl
-pieces-are multiply-by = refl
-pieces-are pop-value = refl
-pieces-are call-target = refl
-pieces-are call-memory = refl
-pieces-are call-through = refl
-pieces-are return-value = refl
-pieces-are return-nothing = refl
-pieces-are tail-call-memory = refl
-pieces-are computed-jump = refl
-pieces-are set-condition = refl
-pieces-are move-if = refl
-pieces-are compare-exchange = refl
-pieces-are exchange-first = refl
-pieces-are exchange-second = refl
-pieces-are time-stamp = refl
-pieces-are cpu-identify = refl
-pieces-are fast-fail = refl
-pieces-are assembly-line = refl
-pieces-are label = refl
-pieces-are open-do = refl
-pieces-are open-if = refl
-pieces-are goto-if = refl
-pieces-are close-while = refl
-pieces-are close = refl
-pieces-are goto = refl
-pieces-are tail-call-target = refl
+numbered assign = (tt, refl)
+numbered cast-u32 = (tt, refl)
+numbered cast-u64 = (tt, refl)
+numbered cast-i32 = (tt, refl)
+numbered cast-i64 = (tt, refl)
+numbered take-address = (tt, refl)
+numbered store-zero = (tt, refl)
+numbered store-ones = (tt, refl)
+numbered add-to = (tt, refl)
+numbered subtract = (tt, refl)
+numbered and-with = (tt, refl)
+numbered or-with = (tt, refl)
+numbered xor-with = (tt, refl)
+numbered shift-left = (tt, refl)
+numbered shift-right = (tt, refl)
+numbered rotate-left = (tt, refl)
+numbered rotate-right = (tt, refl)
+numbered increment = (tt, refl)
+numbered decrement = (tt, refl)
+numbered negation = (tt, refl)
+numbered complement = (tt, refl)
+numbered multiply-two = (tt, refl)
+numbered multiply-by = (tt, refl)
+numbered pop-value = (tt, refl)
+numbered call-target = (tt, refl)
+numbered call-memory = (tt, refl)
+numbered call-through = (tt, refl)
+numbered return-value = (tt, refl)
+numbered return-nothing = (tt, refl)
+numbered tail-call-memory = (tt, refl)
+numbered computed-jump = (tt, refl)
+numbered set-condition = (tt, refl)
+numbered move-if = (tt, refl)
+numbered compare-exchange = (tt, refl)
+numbered exchange-first = (tt, refl)
+numbered exchange-second = (tt, refl)
+numbered time-stamp = (tt, refl)
+numbered cpu-identify = (tt, refl)
+numbered fast-fail = (tt, refl)
+numbered assembly-line = (tt, refl)
+numbered label = (tt, refl)
+numbered open-do = (tt, refl)
+numbered open-if = (tt, refl)
+numbered goto-if = (tt, refl)
+numbered close-while = (tt, refl)
+numbered close = (tt, refl)
+numbered goto = (tt, refl)
+numbered tail-call-target = (tt, refl)
+
+pub form-below : (n : ℕ) (f : Form) → n ≡ formNumber f → n < 48
+form-below n f e = rw e (ltb→lt _ _ (numbered f .0))
+
+pub pieces-are : (f : Form) → map pieceOf (codesOf (formNumber f)) ≡ rowOf f
+pieces-are f = numbered f .1
 
 -- a test that all rows pass, computed, each form's passes
 pub every-row : (q : List Piece → Bool) → T (q []) → T (every (λ (cs : List ℕ). q (map pieceOf cs)) codes) → (f : Form) → T (q (rowOf f))

@@ -17,10 +17,11 @@ use Rattle.flow.specs.Rows.{blockRows}
 use Rattle.expressions.specs.Condition.{bodyOf}
 use Rattle.expressions.specs.Arguments.{writtenAfter}
 use Rattle.line.specs.Forms.{formOf, rowOf, insnForm, returnForm, returnsValue}
-use Rattle.line.specs.Codes.{pieceOf, formNumber, codesOf}
+use Rattle.line.specs.Codes.{pieceOf, formNumber, codesOf, rowBytes}
 use Rattle.line.specs.Lines.{whats, whatAt, lineIn}
 use Rattle.line.specs.Print.{piecesTokens, lineTokens, maskAfter}
 use Rattle.line.proofs.RowTable.{pieces-are}
+use Rattle.line.proofs.PlainForms.{told}
 
 what-late : (n : ℕ) → 8 ≤ n → whatAt n ≡ insn-line
 unfolding whatAt
@@ -49,6 +50,10 @@ module _ (h : Header) (s : List ℕ) (n : ℕ) where
   pub form-ret : (first i form m : ℕ) (value : Bool) (bodies b : List ℕ) → 8 ≤ n → bodies ≡ bodiesOf h s → value ≡ returnsValue bodies first i → b ≡ bodyAt bodies i
       → m ≡ mnemonicOf b → m ≡ 24 → form ≡ formNumber (returnForm value) → form ≡ formNumber (formOf h s (whatAt n) first i)
   form-ret first i form m value bodies b l p q r t u v = form-late first i form value bodies b l p q r (v ∙ ap formNumber (ret-form value b (sym t ∙ u)))
+
+  pub form-plain : (first i m : ℕ) (bodies b t : List ℕ) → 8 ≤ n → bodies ≡ bodiesOf h s → b ≡ bodyAt bodies i → m ≡ mnemonicOf b → m < 256 → t ≡ rowBytes
+      → getD t (768 + m) 0 < 48 → getD t (768 + m) 0 ≡ formNumber (formOf h s (whatAt n) first i)
+  form-plain first i m bodies b t l p r q k e o = form-late first i (getD t (768 + m) 0) _ bodies b l p refl r (told b t m q k e _ o)
 
   pub form-other : (first i form m : ℕ) (bodies b : List ℕ) → 8 ≤ n → bodies ≡ bodiesOf h s → b ≡ bodyAt bodies i
       → m ≡ mnemonicOf b → (m ≡ 24 → ⊥) → form ≡ formNumber (insnForm false b) → form ≡ formNumber (formOf h s (whatAt n) first i)

@@ -1,11 +1,14 @@
 -- The forms and their pieces as the code has them: a form by its number, a fixed word by its number, other pieces by numbers from 128 on.
 use Prim.Native.Nat.{ℕ, _-_}
+use mathlib.Core.Bool.{Bool, _&&_, _||_}
 use mathlib.Core.List.{List, [], _∷_, _++_}
-use lib.Dec.{ltb}
+use lib.Dec.{eqb, leb, ltb}
 use lib.ListN.{getD, length, replicate}
 use Rattle.lists.specs.Choice.{pick}
+use Rattle.lists.specs.Entries.{tab}
 use Rattle.tokens.specs.Words.{wordToken}
-use Rattle.line.specs.Forms.{Piece, Form, reg, loc, sub}
+use Rattle.x86.specs.Mnemonics as mnemonic
+use Rattle.line.specs.Forms.{Piece, Form, reg, loc, sub, plainForm}
 use Rattle.line.specs.Forms.Piece.{fixed, op, address, zeros, ones, condition, negated, arguments, start, accumulator, assembly}
 use Rattle.line.specs.Forms.Form.{assign, cast-u32, cast-u64, cast-i32, cast-i64, take-address, store-zero, store-ones, add-to, subtract, and-with, or-with, xor-with, shift-left, shift-right, rotate-left, rotate-right, increment, decrement, negation, complement, multiply-two, multiply-by, pop-value, call-target, call-memory, call-through, return-value, return-nothing, tail-call-memory, computed-jump, set-condition, move-if, compare-exchange, exchange-first, exchange-second, time-stamp, cpu-identify, fast-fail, assembly-line, label, open-do, open-if, goto-if, close-while, close, goto, tail-call-target}
 
@@ -124,10 +127,21 @@ codes =
 unfoldable pub codesOf : ℕ → List ℕ
 codesOf form = getD codes form []
 
--- the code's table: 16 bytes a row, its length, its pieces and zeros
+-- 16 bytes a row: its length, its pieces and zeros
 abbrev pub packedRows : List (List ℕ) → List ℕ
 packedRows [] = []
 packedRows (r ∷ rs) = length r ∷ r ++ (replicate (15 - length r) 0 ++ packedRows rs)
 
+-- the mnemonics whose form the operands decide
+abbrev pub byOperands : ℕ → Bool
+byOperands m =
+    (leb mnemonic.movzx m && leb m mnemonic.movsxd) || (leb mnemonic.xor m && leb m mnemonic.or)
+    || eqb m mnemonic.imul || eqb m mnemonic.call || eqb m mnemonic.jmp || eqb m mnemonic.xchg
+
+-- what the table has of a mnemonic: the number of its form, or 255 where the operands decide it, or, of a ret, the instructions before
+abbrev pub formByte : ℕ → ℕ
+formByte m = pick (byOperands m || eqb m mnemonic.ret) 255 (formNumber (plainForm m))
+
+-- the code's table: the rows, and behind them a byte for each number that a record can give as a mnemonic
 unfoldable pub rowBytes : List ℕ
-rowBytes = packedRows codes
+rowBytes = packedRows codes ++ tab formByte 0 256

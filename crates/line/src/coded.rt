@@ -33,9 +33,11 @@ ghost use Rattle.line.specs.Forms.{formOf};
 ghost use Rattle.line.specs.Lines.{whatAt, lineIn};
 ghost use Rattle.line.specs.Print.{lineTokens, maskAfter, printed};
 
-// The form of a line of instruction i, in the block whose first instruction is `first`. Only a ret asks whether a value is left.
-fn line_form(isa: &[u8], rec: &[u8], h: Header, what: u8, first: u16, i: u16) -> u8
+// The form of a line of instruction i, in the block whose first instruction is `first`: most mnemonics decide it alone, and the table has
+// it. Only a ret asks whether a value is left.
+fn line_form(isa: &[u8], rows: &[u8], rec: &[u8], h: Header, what: u8, first: u16, i: u16) -> u8
     requires { ⌜ now isa ≡ isaBytes ⌝ }
+    requires { ⌜ now rows ≡ rowBytes ⌝ }
     ensures { λ r. ⌜ r ≡ formNumber (formOf h (now (rec .entry)) (whatAt what) first i) ⌝ }
 {
     if what < 8 {
@@ -43,10 +45,15 @@ fn line_form(isa: &[u8], rec: &[u8], h: Header, what: u8, first: u16, i: u16) ->
     }
     let bodies = from(rec, bodies_at(h));
     let body = body_at(bodies, i);
-    if mnemonic(body) == 24 {
+    let m = mnemonic(body);
+    let form = rows[768 + m as usize];
+    if form < 48 {
+        return form;
+    }
+    if m == 24 {
         return return_form(returns_value(isa, bodies, first, i));
     }
-    insn_form(isa, false, body)
+    insn_form(isa, body)
 }
 
 // The registers written behind a line: only an instruction's own line changes them.
@@ -82,7 +89,7 @@ fn code_tokens(
     let i = instruction_of(code);
     let first = u16_in(blocks, 8 * size(place));
     let what = what_of(code);
-    let form = line_form(isa_of(tables), rec, h, what, first, i);
+    let form = line_form(isa_of(tables), rows, rec, h, what, first, i);
     let site = Site {
         at: i,
         first: first,

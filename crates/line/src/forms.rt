@@ -9,11 +9,13 @@ use record::body::op_number;
 use record::body::op_register;
 use x86::registers::full_register;
 use x86::registers::register_size;
+ghost use mathlib.Core.Bool.{true, false};
 ghost use mathlib.Core.Path.{_≡_};
 ghost use Prim.Native.Nat.{_≤_};
 ghost use Rattle.x86.specs.Table.{isaBytes};
-ghost use Rattle.line.specs.Codes.{formNumber};
-ghost use Rattle.line.specs.Forms.{castForm, isXorSelf, isAndZero, isOrOnes, imulForm, callForm, xchgForm, plainForm, logicForm, returnForm, jumpForm, insnForm, leavesValue, valueBefore, returnsValue};
+ghost use Rattle.record.specs.Body.{mnemonicOf};
+ghost use Rattle.line.specs.Codes.{formNumber, byOperands};
+ghost use Rattle.line.specs.Forms.{castForm, isXorSelf, isAndZero, isOrOnes, imulForm, callForm, xchgForm, logicForm, returnForm, jumpForm, insnForm, leavesValue, valueBefore, returnsValue};
 
 fn cast_form(isa: &[u8], m: u8, body: &[u8]) -> u8
     requires { ⌜ now isa ≡ isaBytes ⌝ }
@@ -99,68 +101,36 @@ pub fn leaves_value(isa: &[u8], body: &[u8]) -> bool
         | (mnemonic(body) == 23)
 }
 
-// The forms that the mnemonic alone decides.
-const PLAIN_FORMS: [u8; 38] = [
-    39,
-    0,
-    39,
-    39,
-    39,
-    5,
-    12,
-    10,
-    11,
-    8,
-    9,
-    13,
-    14,
-    14,
-    15,
-    16,
-    17,
-    18,
-    19,
-    20,
-    39,
-    39,
-    23,
-    39,
-    39,
-    39,
-    31,
-    32,
-    33,
-    39,
-    36,
-    37,
-    39,
-    39,
-    39,
-    39,
-    38,
-    38,
-];
-
-fn plain_form(m: u8) -> u8
-    ensures { λ r. ⌜ r ≡ formNumber (plainForm m) ⌝ }
+// xor, and, or, where the operands may make it the store of a constant.
+fn xor_form(body: &[u8]) -> u8
+    ensures { λ r. ⌜ r ≡ formNumber (logicForm 6 (now (body .entry))) ⌝ }
 {
-    if m < 38 { PLAIN_FORMS[m as usize] } else { 39 }
+    if is_xor_self(body) { 6 } else { 12 }
 }
 
-// The forms of xor, and, or, where the operands decide.
+fn and_form(body: &[u8]) -> u8
+    ensures { λ r. ⌜ r ≡ formNumber (logicForm 7 (now (body .entry))) ⌝ }
+{
+    if is_and_zero(body) { 6 } else { 10 }
+}
+
+fn or_form(body: &[u8]) -> u8
+    ensures { λ r. ⌜ r ≡ formNumber (logicForm 8 (now (body .entry))) ⌝ }
+{
+    if is_or_ones(body) { 7 } else { 11 }
+}
+
 fn logic_form(m: u8, body: &[u8]) -> u8
+    requires { ⌜ (6 ≤ m) × (m ≤ 8) ⌝ }
     ensures { λ r. ⌜ r ≡ formNumber (logicForm m (now (body .entry))) ⌝ }
 {
-    if (m == 6) & is_xor_self(body) {
-        return 6;
+    if m == 6 {
+        return xor_form(body);
     }
-    if (m == 7) & is_and_zero(body) {
-        return 6;
+    if m == 7 {
+        return and_form(body);
     }
-    if (m == 8) & is_or_ones(body) {
-        return 7;
-    }
-    plain_form(m)
+    or_form(body)
 }
 
 pub fn return_form(value: bool) -> u8
@@ -175,34 +145,29 @@ fn jump_form(body: &[u8]) -> u8
     if op_kind(body, 0) == 1 { 29 } else { 30 }
 }
 
-// The form of an instruction's own line.
-pub fn insn_form(isa: &[u8], value: bool, body: &[u8]) -> u8
+// The form of an instruction's own line, where its operands decide it.
+pub fn insn_form(isa: &[u8], body: &[u8]) -> u8
     requires { ⌜ now isa ≡ isaBytes ⌝ }
-    ensures { λ r. ⌜ r ≡ formNumber (insnForm value (now (body .entry))) ⌝ }
+    requires { ⌜ byOperands (mnemonicOf (now body)) ≡ true ⌝ }
+    ensures { λ r. ⌜ r ≡ formNumber (insnForm false (now (body .entry))) ⌝ }
 {
     let m = mnemonic(body);
-    if (2 <= m) & (m <= 4) {
-        return cast_form(isa, m, body);
-    }
-    if m == 20 {
-        return imul_form(op_count(body));
-    }
     if m == 23 {
         return call_form(body);
-    }
-    if m == 24 {
-        return return_form(value);
-    }
-    if m == 25 {
-        return jump_form(body);
-    }
-    if m == 29 {
-        return xchg_form(body);
     }
     if (6 <= m) & (m <= 8) {
         return logic_form(m, body);
     }
-    plain_form(m)
+    if m == 25 {
+        return jump_form(body);
+    }
+    if m == 20 {
+        return imul_form(op_count(body));
+    }
+    if m == 29 {
+        return xchg_form(body);
+    }
+    cast_form(isa, m, body)
 }
 
 // Whether one of the six instructions before instruction i of its block, whose first is `first`, leaves a value.

@@ -228,6 +228,7 @@ pub fn code_row(
     requires { ⌜ now rows ≡ rowBytes ⌝ }
     requires { ⌜ now body ≡ bodyOf h (now rec) (site .at) ⌝ }
     requires { ⌜ isPlain (now codes) ≡ false ⌝ }
+    requires { ⌜ form < 48 ⌝ }
     ensures { λ _. ⌜ Coded (now (tables .entry)) (now (rec .entry)) (now (codes .entry)) (now (codes .exit)) (piecesTokens h (now (rec .entry)) site (map pieceOf (codesOf form))) ⌝ }
 {
     let pieces = row_codes(rows, form);
@@ -284,6 +285,7 @@ pub fn code_frame(
     requires { ⌜ now rows ≡ rowBytes ⌝ }
     requires { ⌜ now body ≡ bodyOf h (now rec) (site .at) ⌝ }
     requires { ⌜ isPlain (now codes) ≡ false ⌝ }
+    requires { ⌜ form < 48 ⌝ }
     ensures { λ _. ⌜ Coded (now (tables .entry)) (now (rec .entry)) (now (codes .entry)) (now (codes .exit)) (piecesTokens h (now (rec .entry)) site (map pieceOf (codesOf form))) ⌝ }
 {
     let pieces = row_codes(rows, form);

@@ -1,7 +1,7 @@
 -- `coded::code_tokens` meets its contract.
 -- The row of its form, at its site.
-use native.Mathlib.Omega.{arith}
 use Rattle.operand.proofs.Tokens.{as-tokens}
+use Rattle.line.proofs.RowTable.{form-below}
 use Rattle.line.proofs.Turns.{line-is}
 use borrow.Author.Needs.{needs}
 use Rattle.line.proofs.coded.code_tokens.Statement.{statement}
@@ -35,7 +35,7 @@ body-of-requires : tie.Need-body-of-requires
 body-of-requires c κs = search needs
 
 code-frame-requires : tie.Need-code-frame-requires
-code-frame-requires c κs = ((c .before .before .before .before .before .before .before .before .before .before .before .before .before .before .before .pre .0), ((c .before .before .before .before .before .before .before .before .before .before .before .before .before .before .before .pre .1 .0), ((c .before .before .body-of .ensures), (c .before .before .before .before .before .before .before .before .before .before .before .before .before .before .before .pre .1 .1 .1))))
+code-frame-requires c κs = ((c .before .before .before .before .before .before .before .before .before .before .before .before .before .before .before .pre .0), ((c .before .before .before .before .before .before .before .before .before .before .before .before .before .before .before .pre .1 .0), ((c .before .before .body-of .ensures), ((c .before .before .before .before .before .before .before .before .before .before .before .before .before .before .before .pre .1 .1 .1), form-below _ _ ((c .before .before .before .line-form .ensures))))))
 
 same-length : tie.Need-same-length
 same-length c = search needs
@@ -46,7 +46,7 @@ returns c =
     as-tokens (line-is (a .h) (a .rec .now) (a .blocks .now) (a .range) (a .mask) (a .code) _ _ _ _ _ _ (c .before .before .before .before .before .before .before .before .before .before .before .before .before .before .before .before .before .before .pre .1 .1 .0) (c .before .before .before .before .before .before .before .before .before .before .before .before .place-of-line .ensures) (c .before .before .before .before .before .before .before .before .before .before .before .instruction-of .ensures) (c .before .before .before .before .before .before .before .before .before .before .size .ensures .0) (c .before .before .before .before .before .before .before .before .before .u16-in .ensures .0) (c .before .before .before .before .before .before .before .before .what-of .ensures) (c .before .before .before .before .before .before .line-form .ensures)) (c .before .before .code-frame .ensures)
 
 code-row-requires : tie.Need-code-row-requires
-code-row-requires c κs = ((c .before .before .before .before .before .before .before .before .before .before .before .before .before .before .before .pre .0), ((c .before .before .before .before .before .before .before .before .before .before .before .before .before .before .before .pre .1 .0), ((c .before .before .body-of .ensures), (c .before .before .before .before .before .before .before .before .before .before .before .before .before .before .before .pre .1 .1 .1))))
+code-row-requires c κs = ((c .before .before .before .before .before .before .before .before .before .before .before .before .before .before .before .pre .0), ((c .before .before .before .before .before .before .before .before .before .before .before .before .before .before .before .pre .1 .0), ((c .before .before .body-of .ensures), ((c .before .before .before .before .before .before .before .before .before .before .before .before .before .before .before .pre .1 .1 .1), form-below _ _ ((c .before .before .before .line-form .ensures))))))
 
 same-length-2 : tie.Need-same-length-2
 same-length-2 c = search needs

@@ -41,7 +41,7 @@ code-word-requires c κs = search needs
 code-piece-requires : tie.Need-code-piece-requires Inv-loop μ-loop
 code-piece-requires c κs = (
   record { room = omega (arith, (c .before .before .before .before .loop .inv .0), (c .before .before .before .before .before .before .before .before .before .before .before .pre .0 .room)); table = (c .before .before .before .before .before .before .before .before .before .before .before .pre .0 .table); rising = (c .before .before .before .before .before .before .before .before .before .before .before .pre .0 .rising) },
-  ((c .before .before .before .before .before .before .before .before .before .before .before .pre .1 .1 .0), ((c .before .before .before .before .loop .inv .2 .coded .plain) ∙ (c .before .before .before .before .before .before .before .before .before .before .before .pre .1 .1 .1), (c .before .if1 .left))),
+  ((c .before .before .before .before .before .before .before .before .before .before .before .pre .1 .1 .0), ((c .before .before .before .before .loop .inv .2 .coded .plain) ∙ (c .before .before .before .before .before .before .before .before .before .before .before .pre .1 .1 .1 .0), (c .before .if1 .left))),
 )
 
 add-i : tie.Need-add-i Inv-loop μ-loop

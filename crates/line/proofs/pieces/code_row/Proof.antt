@@ -47,7 +47,7 @@ code-operand-requires c κs = record { room = omega (arith, (c .before .before .
 code-special-requires : tie.Need-code-special-requires Inv-loop μ-loop
 code-special-requires c κs = (
   record { room = omega (arith, (c .before .before .before .before .before .loop .inv .0), (c .before .before .before .before .before .before .before .before .before .before .before .before .pre .0 .room)); table = (c .before .before .before .before .before .before .before .before .before .before .before .before .pre .0 .table); rising = (c .before .before .before .before .before .before .before .before .before .before .before .before .pre .0 .rising) },
-  ((c .before .before .before .before .before .before .before .before .before .before .before .before .pre .1 .1 .0), ((c .before .before .before .before .before .loop .inv .2 .coded .plain) ∙ (c .before .before .before .before .before .before .before .before .before .before .before .before .pre .1 .1 .1), (c .before .if2 .left))),
+  ((c .before .before .before .before .before .before .before .before .before .before .before .before .pre .1 .1 .0), ((c .before .before .before .before .before .loop .inv .2 .coded .plain) ∙ (c .before .before .before .before .before .before .before .before .before .before .before .before .pre .1 .1 .1 .0), (c .before .if2 .left))),
 )
 
 add-i : tie.Need-add-i Inv-loop μ-loop
