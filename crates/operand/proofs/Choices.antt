@@ -23,7 +23,7 @@ use Rattle.record.specs.Body.{operandKind, operandRegister, operandNumber}
 use Rattle.x86.specs.Sizes.{sizeIndex, prefixIndex}
 use Rattle.operand.specs.Expr.{Expr, tight}
 use Rattle.operand.specs.Names.{nameOr, inSpan}
-use Rattle.operand.specs.Memory.{registerToken, number, isSegmentRead, isGlobal, isSlot, segmentRead, global, slotToken, addressOf, address, addressExpr, memExpr, memTokens}
+use Rattle.operand.specs.Memory.{registerToken, number, isSegmentRead, isGlobal, isSlot, segmentRead, global, slotToken, addressOf, address, memExpr, memTokens}
 use Rattle.operand.specs.Operand.{signedRead, inWindow, immediateNumber, immediate, opTokens}
 use Rattle.operand.proofs.Integers.{i64-fits, wide}
 use Rattle.operand.proofs.Readings.{yes-is, no-is}
@@ -70,13 +70,6 @@ module _ (h : Header) (s b : List ℕ) (deref : Bool) where
       is-address e =
           sym (ap (λ (x : Expr). x .tokens)
           (others ∙ (no-of (isGlobal b) (tight (global h s deref b)) third q ∙ no-of (isSlot h b) (tight (addressOf deref (slotToken h b))) (address h deref b) e)))
-
--- read, or as an address
-pub is-read : (h : Header) (b : List ℕ) (deref : Bool) → deref ≡ true → address h true b .tokens ≡ address h deref b .tokens
-is-read h b deref e = rw e
-
-pub is-plain : (h : Header) (b : List ℕ) (deref : Bool) → deref ≡ false → addressExpr h b .tokens ≡ address h deref b .tokens
-is-plain h b deref e = rw e
 
 -- the window is asked of a number that fits
 read-fits : (kind v : ℕ) → v < 2 ^ 64 → SFits w64 (signedRead kind v)

@@ -9,7 +9,7 @@ use Rattle.tokens.specs.Token.{Token}
 use Rattle.tokens.specs.Words.{words, wordToken}
 use Rattle.codes.specs.Coded.{Coded}
 use Rattle.codes.proofs.Coding.{coded-more}
-use Rattle.operand.specs.Expr.{Expr, wrapIf, wrap}
+use Rattle.operand.specs.Expr.{wrapIf}
 
 module _ {t s : List ℕ} where
   -- tokens that are others
@@ -23,12 +23,9 @@ module _ {t s : List ℕ} where
       → Coded t s c c₃ (x ∷ y ∷ z ∷ [])
   three f g k = coded-more t s f (two g k)
 
-  -- parentheses where an expression is loose
-  pub wrapped : {c c₁ c₂ c₃ : List ℕ} (e : Expr) (l : Bool) → l ≡ e .loose → Coded t s c c₁ (pick l (wordToken 2 ∷ []) [])
-      → Coded t s c₁ c₂ (e .tokens) → Coded t s c₂ c₃ (pick l (wordToken 3 ∷ []) []) → Coded t s c c₃ (wrap e)
+  -- parentheses where they are wanted
+  pub enclosed : {c c₁ c₂ c₃ : List ℕ} (l : Bool) (ts : List Token) → Coded t s c c₁ (pick l (wordToken 2 ∷ []) [])
+      → Coded t s c₁ c₂ ts → Coded t s c₂ c₃ (pick l (wordToken 3 ∷ []) []) → Coded t s c c₃ (wrapIf l ts)
   unfolding wordToken words
-  wrapped {c} {c₁} {c₂} {c₃} e l h p q r = rw (← h) (go l p r)
-    where
-      go : (l : Bool) → Coded t s c c₁ (pick l (wordToken 2 ∷ []) []) → Coded t s c₂ c₃ (pick l (wordToken 3 ∷ []) []) → Coded t s c c₃ (wrapIf l (e .tokens))
-      go true p r = coded-more t s p (coded-more t s q r)
-      go false p r = as-tokens (append-nil (e .tokens)) (coded-more t s p (coded-more t s q r))
+  enclosed true ts p q r = coded-more t s p (coded-more t s q r)
+  enclosed false ts p q r = as-tokens (append-nil ts) (coded-more t s p (coded-more t s q r))

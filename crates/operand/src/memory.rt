@@ -42,8 +42,7 @@ ghost use mathlib.Core.Path.{_≡_};
 ghost use Rattle.lists.specs.Choice.{pick};
 ghost use Rattle.tokens.specs.Token.{punct, register};
 ghost use Rattle.tokens.specs.Words.{wordToken};
-ghost use Rattle.operand.specs.Expr.{wrap};
-ghost use Rattle.operand.specs.Memory.{number, typeWord, prefixWord, segmentWord, segmentRead, global, slotToken, addressOf, scaled, registers, addressExpr, address, isSegmentRead, isGlobal, memTokens};
+ghost use Rattle.operand.specs.Memory.{registerToken, number, typeWord, prefixWord, segmentWord, segmentRead, global, slotToken, addressOf, scaled, registers, addressExpr, address, isSegmentRead, isGlobal, memTokens};
 ghost use Prim.Native.Nat.{ℕ, _≤_, _<_};
 ghost use lib.ListN.{length};
 ghost use Rattle.codes.specs.Coded.{Coded};
@@ -187,7 +186,7 @@ fn code_slot(codes: &mut [u64], tables: &[u8], h: Header, body: &[u8], deref: bo
     code_prefixed(codes, tables, w, n.size)
 }
 
-// A parenthesis, or nothing.
+// A word, or nothing.
 fn code_if(codes: &mut [u64], tables: &[u8], w: u8, wanted: bool)
     requires { ⌜ (5 ≤ length (now codes)) × (now tables ≡ tableBytes) ⌝ }
     ensures { λ _. ⌜ ((s : List ℕ) → Coded (now (tables .entry)) s (now (codes .entry)) (now (codes .exit)) (pick wanted (wordToken w ∷ []) [])) ⌝ }
@@ -210,77 +209,70 @@ fn code_scaled(codes: &mut [u64], tables: &[u8], body: &[u8])
     }
 }
 
-// The same, in parentheses where it is scaled.
-fn code_wrapped_index(codes: &mut [u64], tables: &[u8], body: &[u8])
+// The index with its scale, or nothing.
+fn code_index(codes: &mut [u64], tables: &[u8], body: &[u8], wanted: bool)
     requires { ⌜ (5 ≤ length (now codes)) × (now tables ≡ tableBytes) ⌝ }
-    ensures { λ _. ⌜ ((s : List ℕ) → Coded (now (tables .entry)) s (now (codes .entry)) (now (codes .exit)) (wrap (scaled (now (body .entry))))) ⌝ }
+    ensures { λ _. ⌜ ((s : List ℕ) → Coded (now (tables .entry)) s (now (codes .entry)) (now (codes .exit)) (pick wanted (scaled (now (body .entry)) .tokens) [])) ⌝ }
 {
-    let loose = 1 < memory_index_scale(body);
-    code_if(codes, tables, OPEN, loose);
-    code_scaled(codes, tables, body);
-    code_if(codes, tables, CLOSE, loose)
+    if wanted {
+        return code_scaled(codes, tables, body);
+    }
 }
 
-// Base and index.
+// The base, or nothing.
+fn code_base(codes: &mut [u64], tables: &[u8], base: u8, wanted: bool)
+    requires { ⌜ (5 ≤ length (now codes)) × (now tables ≡ tableBytes) ⌝ }
+    ensures { λ _. ⌜ ((s : List ℕ) → Coded (now (tables .entry)) s (now (codes .entry)) (now (codes .exit)) (pick wanted (registerToken base ∷ []) [])) ⌝ }
+{
+    if wanted {
+        return code_register(codes, tables, base);
+    }
+}
+
+// Base and index: a scaled index behind a base stands in parentheses.
 fn code_registers(codes: &mut [u64], tables: &[u8], h: Header, body: &[u8])
     requires { ⌜ (5 ≤ length (now codes)) × (now tables ≡ tableBytes) ⌝ }
     ensures { λ _. ⌜ ((s : List ℕ) → Coded (now (tables .entry)) s (now (codes .entry)) (now (codes .exit)) (registers h (now (body .entry)) .tokens)) ⌝ }
 {
     let base = slot_base(h, body);
-    if memory_index(body) == 0 {
-        return code_register(codes, tables, base);
-    }
-    if base == 0 {
-        return code_scaled(codes, tables, body);
-    }
-    code_register(codes, tables, base);
-    code_word(codes, tables, PLUS);
-    code_wrapped_index(codes, tables, body)
-}
-
-// The same, in parentheses where there are two.
-fn code_wrapped_registers(codes: &mut [u64], tables: &[u8], h: Header, body: &[u8])
-    requires { ⌜ (5 ≤ length (now codes)) × (now tables ≡ tableBytes) ⌝ }
-    ensures { λ _. ⌜ ((s : List ℕ) → Coded (now (tables .entry)) s (now (codes .entry)) (now (codes .exit)) (wrap (registers h (now (body .entry))))) ⌝ }
-{
-    let loose = registers_loose(h, body);
+    let index = memory_index(body);
+    let scale = memory_index_scale(body);
+    let both = (base != 0) & (index != 0);
+    let loose = both & (1 < scale);
+    code_base(codes, tables, base, (base != 0) | (index == 0));
+    code_if(codes, tables, PLUS, both);
     code_if(codes, tables, OPEN, loose);
-    code_registers(codes, tables, h, body);
+    code_index(codes, tables, body, index != 0);
     code_if(codes, tables, CLOSE, loose)
 }
 
-// An address.
+// An address: in front of a displacement loose registers stand in parentheses.
 fn code_address(codes: &mut [u64], tables: &[u8], h: Header, body: &[u8])
     requires { ⌜ (5 ≤ length (now codes)) × (now tables ≡ tableBytes) ⌝ }
     ensures { λ _. ⌜ ((s : List ℕ) → Coded (now (tables .entry)) s (now (codes .entry)) (now (codes .exit)) (addressExpr h (now (body .entry)) .tokens)) ⌝ }
 {
     let d = displacement(h, body);
-    if d.size == 0 {
-        return code_registers(codes, tables, h, body);
+    let far = d.size != 0;
+    let loose = far & registers_loose(h, body);
+    code_if(codes, tables, OPEN, loose);
+    code_registers(codes, tables, h, body);
+    code_if(codes, tables, CLOSE, loose);
+    if far {
+        code_word(codes, tables, sign_word(d.negative));
+        return code_num(codes, false, d.size);
     }
-    code_wrapped_registers(codes, tables, h, body);
-    code_word(codes, tables, sign_word(d.negative));
-    code_num(codes, false, d.size)
 }
 
-// The same, in parentheses where there is more than a register.
-fn code_wrapped_address(codes: &mut [u64], tables: &[u8], h: Header, body: &[u8])
+// What registers and displacement lead to: read, with a loose address in parentheses, or as the address.
+fn code_place(codes: &mut [u64], tables: &[u8], h: Header, body: &[u8], deref: bool)
     requires { ⌜ (5 ≤ length (now codes)) × (now tables ≡ tableBytes) ⌝ }
-    ensures { λ _. ⌜ ((s : List ℕ) → Coded (now (tables .entry)) s (now (codes .entry)) (now (codes .exit)) (wrap (addressExpr h (now (body .entry))))) ⌝ }
+    ensures { λ _. ⌜ ((s : List ℕ) → Coded (now (tables .entry)) s (now (codes .entry)) (now (codes .exit)) (address h deref (now (body .entry)) .tokens)) ⌝ }
 {
-    let loose = address_loose(h, body);
+    let loose = deref & address_loose(h, body);
+    code_if(codes, tables, type_word(memory_size(body)), deref);
     code_if(codes, tables, OPEN, loose);
     code_address(codes, tables, h, body);
     code_if(codes, tables, CLOSE, loose)
-}
-
-// A read at an address.
-fn code_read(codes: &mut [u64], tables: &[u8], h: Header, body: &[u8])
-    requires { ⌜ (5 ≤ length (now codes)) × (now tables ≡ tableBytes) ⌝ }
-    ensures { λ _. ⌜ ((s : List ℕ) → Coded (now (tables .entry)) s (now (codes .entry)) (now (codes .exit)) (address h true (now (body .entry)) .tokens)) ⌝ }
-{
-    code_word(codes, tables, type_word(memory_size(body)));
-    code_wrapped_address(codes, tables, h, body)
 }
 
 // A memory operand, read or as an address.
@@ -297,8 +289,5 @@ pub fn mem(codes: &mut [u64], tables: &[u8], rec: &[u8], h: Header, body: &[u8],
     if is_slot(h, body) {
         return code_slot(codes, tables, h, body, deref);
     }
-    if deref {
-        return code_read(codes, tables, h, body);
-    }
-    code_address(codes, tables, h, body)
+    code_place(codes, tables, h, body, deref)
 }

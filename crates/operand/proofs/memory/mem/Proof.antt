@@ -1,7 +1,6 @@
 -- `memory::mem` meets its contract.
 -- By the kind of memory.
-use mathlib.Core.Path.{_∙_}
-use Rattle.operand.proofs.Choices.{made, is-segment, is-global, is-slot, is-address, is-read, is-plain}
+use Rattle.operand.proofs.Choices.{made, is-segment, is-global, is-slot, is-address}
 use Rattle.operand.proofs.Tokens.{as-tokens}
 use borrow.Author.Needs.{needs}
 use Rattle.operand.proofs.memory.mem.Statement.{statement}
@@ -49,27 +48,16 @@ returns-3 c =
     let a = c .before .before .before .before .before .before .before .before .before .before .before .before .before .before .args in
     as-tokens (is-slot (a .h) (a .rec .now) (a .body .now) (a .deref) (made _ _ _ (c .before .before .before .before .before .before .before .before .before .is-segment-read .ensures) (c .before .before .before .before .before .before .before .before .if1 .left)) (made _ _ _ (c .before .before .before .before .before .before .before .is-global .ensures) (c .before .before .before .before .before .before .if2 .left)) (made _ _ _ (c .before .before .before .before .before .is-slot .ensures) (c .before .before .before .before .if3 .taken))) (c .before .before .code-slot .ensures (a .rec .now))
 
-code-read-requires : tie.Need-code-read-requires
-code-read-requires c κs = search needs
+code-place-requires : tie.Need-code-place-requires
+code-place-requires c κs = search needs
 
 same-length-4 : tie.Need-same-length-4
 same-length-4 c = search needs
 
 returns-4 : tie.Need-returns-4
 returns-4 c =
-    let a = c .before .before .before .before .before .before .before .before .before .before .before .before .before .before .before .args in
-    as-tokens (is-read (a .h) (a .body .now) (a .deref) (c .before .before .before .before .if4 .taken) ∙ is-address (a .h) (a .rec .now) (a .body .now) (a .deref) (made _ _ _ (c .before .before .before .before .before .before .before .before .before .before .is-segment-read .ensures) (c .before .before .before .before .before .before .before .before .before .if1 .left)) (made _ _ _ (c .before .before .before .before .before .before .before .before .is-global .ensures) (c .before .before .before .before .before .before .before .if2 .left)) (made _ _ _ (c .before .before .before .before .before .before .is-slot .ensures) (c .before .before .before .before .before .if3 .left))) (c .before .before .code-read .ensures (a .rec .now))
-
-code-address-requires : tie.Need-code-address-requires
-code-address-requires c κs = search needs
-
-same-length-5 : tie.Need-same-length-5
-same-length-5 c = search needs
-
-returns-5 : tie.Need-returns-5
-returns-5 c =
-    let a = c .before .before .before .before .before .before .before .before .before .before .before .before .before .before .before .args in
-    as-tokens (is-plain (a .h) (a .body .now) (a .deref) (c .before .before .before .before .if4 .left) ∙ is-address (a .h) (a .rec .now) (a .body .now) (a .deref) (made _ _ _ (c .before .before .before .before .before .before .before .before .before .before .is-segment-read .ensures) (c .before .before .before .before .before .before .before .before .before .if1 .left)) (made _ _ _ (c .before .before .before .before .before .before .before .before .is-global .ensures) (c .before .before .before .before .before .before .before .if2 .left)) (made _ _ _ (c .before .before .before .before .before .before .is-slot .ensures) (c .before .before .before .before .before .if3 .left))) (c .before .before .code-address .ensures (a .rec .now))
+    let a = c .before .before .before .before .before .before .before .before .before .before .before .before .before .before .args in
+    as-tokens (is-address (a .h) (a .rec .now) (a .body .now) (a .deref) (made _ _ _ (c .before .before .before .before .before .before .before .before .before .is-segment-read .ensures) (c .before .before .before .before .before .before .before .before .if1 .left)) (made _ _ _ (c .before .before .before .before .before .before .before .is-global .ensures) (c .before .before .before .before .before .before .if2 .left)) (made _ _ _ (c .before .before .before .before .before .is-slot .ensures) (c .before .before .before .before .if3 .left))) (c .before .before .code-place .ensures (a .rec .now))
 
 pub mem-spec : {M : Type 1} → statement M
 mem-spec =
@@ -87,9 +75,6 @@ mem-spec =
     code-slot-requires
     same-length-3
     returns-3
-    code-read-requires
+    code-place-requires
     same-length-4
-    returns-4
-    code-address-requires
-    same-length-5
-    returns-5)
+    returns-4)
