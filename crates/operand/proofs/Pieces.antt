@@ -9,19 +9,22 @@ use lib.Dec.{eqb, ltb}
 use lib.IntN.{natAbs}
 use Rattle.lists.specs.Choice.{pick}
 use Rattle.tokens.specs.Token.{Token, punct}
-use Rattle.tokens.specs.Words.{words, wordToken}
+use Rattle.tokens.specs.Words.{words, wordToken, prefixed}
 use Rattle.record.specs.declared.header.Header.{Header}
 use Rattle.record.specs.declared.search.Found.{Found}
+use Rattle.record.specs.declared.search.Found.the-variants.{At, Nothing}
+use Rattle.record.specs.Layout.{pairsOf}
+use Rattle.record.specs.Atlas.{entryKind}
 use Rattle.record.specs.Body.{segmentOf, indexOf, scaleOf, memorySize, memoryAddress}
 use Rattle.operand.specs.declared.numbers.Sized.{Sized}
 use Rattle.operand.specs.Sized.{sizedOf}
 use Rattle.operand.specs.Expr.{Expr, tight, wrapIf, binop}
-use Rattle.operand.specs.Names.{entryAt, nameOrAt, literalAt}
+use Rattle.operand.specs.Names.{entryAt, entryToken, literalAt}
 use Rattle.operand.specs.Memory.{registerToken, number, typeWord, prefixWord, segmentWord, segmentRead, global, slotBase, addressOf, scaled, registers, displacement, addressExpr, address}
 use Rattle.codes.specs.Coded.{Coded}
 use Rattle.codes.proofs.Coding.{coded-more}
 use Rattle.operand.proofs.Tokens.{as-tokens, two, enclosed}
-use Rattle.operand.proofs.Readings.{name-found, asked-found}
+use Rattle.operand.proofs.Readings.{global-found}
 
 -- `&` in front of a token, or not
 pub plainly : {x y : Token} (t : Bool) → x ≡ y → t ≡ true → x ∷ [] ≡ addressOf t y
@@ -123,11 +126,25 @@ module _ (h : Header) (b : List ℕ) where
     place-coded deref k w m r p q f g x y =
         as-tokens (read-or-address deref k w m r p q) (coded-more t s f (enclosed (deref && k) (addressExpr h b .tokens) g x y))
 
--- a global, by what was found
-module _ (h : Header) (s b : List ℕ) (deref l : Bool) (found : Found) (va m w : ℕ)
-    (p : va ≡ memoryAddress b) (q : found ≡ entryAt h s va) (r : m ≡ memorySize b) (t : wordToken w ≡ prefixWord m) (u : l ≡ literalAt h s found) where
-  pub global-plain : (deref || l) ≡ true → nameOrAt h s found va (wordToken w) ∷ [] ≡ global h s deref b
-  global-plain e = plainly _ (name-found h s b deref l found va m w p q r t u) (asked-found h s b deref l found va m w p q r t u ∙ e)
+-- a token, and `&` in front of it unless u holds
+module _ {t s c c₁ c₂ : List ℕ} where
+  pub addressed : {x : Token} (u : Bool) → Coded t s c c₁ (pick (not u) (wordToken 5 ∷ []) []) → Coded t s c₁ c₂ (x ∷ []) → Coded t s c c₂ (addressOf u x)
+  unfolding wordToken words
+  addressed true p q = coded-more t s p q
+  addressed false p q = coded-more t s p q
 
-  pub global-address : (deref || l) ≡ false → wordToken 5 ∷ nameOrAt h s found va (wordToken w) ∷ [] ≡ global h s deref b
-  global-address e = and-then _ (name-found h s b deref l found va m w p q r t u) (asked-found h s b deref l found va m w p q r t u ∙ e)
+  -- n is the kind of entry k
+  pub entry-addressed : (h : Header) (k n : ℕ) (deref : Bool) (pairs : List ℕ) → pairs ≡ pairsOf h s → n ≡ entryKind pairs k
+      → Coded t s c c₁ (pick (not (deref || not (eqb n 3))) (wordToken 5 ∷ []) []) → Coded t s c₁ c₂ (entryToken h s k ∷ [])
+      → Coded t s c c₂ (addressOf (deref || literalAt h s (At k)) (entryToken h s k))
+  entry-addressed h k n deref pairs e q f g = rw (← e, ← q) (addressed (deref || not (eqb n 3)) f g)
+
+-- a global that has no entry
+pub nothing-found : (h : Header) (s b : List ℕ) (deref : Bool) (found : Found) (va m w : ℕ)
+    → va ≡ memoryAddress b → found ≡ entryAt h s va → m ≡ memorySize b → wordToken w ≡ prefixWord m
+    → found ≡ Nothing → addressOf deref (prefixed (wordToken w) va) ≡ global h s deref b
+nothing-found h s b deref found va m w p q r t e = go deref ∙ global-found h s b deref Nothing va m w p (sym e ∙ q) r t
+  where
+    go : (d : Bool) → addressOf d (prefixed (wordToken w) va) ≡ addressOf (d || false) (prefixed (wordToken w) va)
+    go true = refl
+    go false = refl

@@ -17,9 +17,9 @@ use Rattle.record.specs.Atlas.{entryKind}
 use Rattle.record.specs.declared.search.Found.{Found}
 use Rattle.record.specs.declared.search.Found.the-variants.{At, Nothing}
 use Rattle.operand.specs.Expr.{Expr}
-use Rattle.operand.specs.Names.{entryAt, entryToken, nameOrAt, nameOr, literalAt, isLiteral}
+use Rattle.operand.specs.Names.{entryAt, entryToken, nameOrAt, nameOr, literalAt}
 use Rattle.x86.specs.Registers.{isStackPointer}
-use Rattle.operand.specs.Memory.{registerToken, number, prefixWord, slotBase, slotNumber, slotToken, scaled, address}
+use Rattle.operand.specs.Memory.{registerToken, number, prefixWord, global, slotBase, slotNumber, slotToken, addressOf, scaled, address}
 use Rattle.operand.specs.Sized.{sizedOf}
 
 -- a test of what was read
@@ -53,12 +53,9 @@ literal-found h s (At k) va = go _ _ (eqb (entryKind (pairsOf h s) k) 3)
     go x y false = refl
 literal-found h s Nothing va = refl
 
-module _ (h : Header) (s b : List ℕ) (deref l : Bool) (found : Found) (va m w : ℕ)
-    (p : va ≡ memoryAddress b) (q : found ≡ entryAt h s va) (r : m ≡ memorySize b) (t : wordToken w ≡ prefixWord m) (u : l ≡ literalAt h s found) where
-  pub name-found : nameOrAt h s found va (wordToken w) ≡ nameOr h s (memoryAddress b) (prefixWord (memorySize b))
-  unfolding nameOr
-  name-found = rw (← r, ← t, ← p, ← q)
-
-  pub asked-found : (deref || isLiteral h s (memoryAddress b)) ≡ (deref || l)
-  unfolding nameOr
-  asked-found = rw (← p, ← q, u, literal-found h s found va)
+-- a global, by what was found
+pub global-found : (h : Header) (s b : List ℕ) (deref : Bool) (found : Found) (va m w : ℕ)
+    → va ≡ memoryAddress b → found ≡ entryAt h s va → m ≡ memorySize b → wordToken w ≡ prefixWord m
+    → addressOf (deref || literalAt h s found) (nameOrAt h s found va (wordToken w)) ≡ global h s deref b
+unfolding nameOr
+global-found h s b deref found va m w p q r t = rw (← r, ← t, ← p, ← q, literal-found h s found va)

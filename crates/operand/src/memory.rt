@@ -1,7 +1,6 @@
 // Memory operands, read or as an address.
-use crate::names::code_found;
+use crate::names::code_entry;
 use crate::names::entry_at;
-use crate::names::is_literal;
 use crate::slots::displacement;
 use crate::slots::is_slot;
 use crate::slots::slot_base;
@@ -10,6 +9,8 @@ use codes::code::code_num;
 use codes::code::code_prefixed;
 use codes::code::code_register;
 use codes::code::code_word;
+use lists::reads::from;
+use record::atlas::entry_kind;
 use record::body::memory_address;
 use record::body::memory_base;
 use record::body::memory_index;
@@ -17,6 +18,8 @@ use record::body::memory_index_scale;
 use record::body::memory_segment;
 use record::body::memory_size;
 use record::header::Header;
+use record::layout::pairs_at;
+use record::search::Found;
 use tokens::words::ADDRESS_OF;
 use tokens::words::ARG;
 use tokens::words::AT_U8;
@@ -41,7 +44,9 @@ ghost use mathlib.Core.List.{[], _∷_, List};
 ghost use mathlib.Core.Path.{_≡_};
 ghost use Rattle.lists.specs.Choice.{pick};
 ghost use Rattle.tokens.specs.Token.{punct, register};
-ghost use Rattle.tokens.specs.Words.{wordToken};
+ghost use Rattle.tokens.specs.Words.{wordToken, prefixed};
+ghost use Rattle.record.specs.declared.search.Found.the-variants.{At};
+ghost use Rattle.operand.specs.Names.{entryToken, literalAt};
 ghost use Rattle.operand.specs.Memory.{registerToken, number, typeWord, prefixWord, segmentWord, segmentRead, global, slotToken, addressOf, scaled, registers, addressExpr, address, isSegmentRead, isGlobal, memTokens};
 ghost use Prim.Native.Nat.{ℕ, _≤_, _<_};
 ghost use lib.ListN.{length};
@@ -157,19 +162,47 @@ fn code_segment(codes: &mut [u64], tables: &[u8], body: &[u8])
     code_argument(codes, tables, memory_address(body))
 }
 
+// A word, or nothing.
+fn code_if(codes: &mut [u64], tables: &[u8], w: u8, wanted: bool)
+    requires { ⌜ (5 ≤ length (now codes)) × (now tables ≡ tableBytes) ⌝ }
+    ensures { λ _. ⌜ ((s : List ℕ) → Coded (now (tables .entry)) s (now (codes .entry)) (now (codes .exit)) (pick wanted (wordToken w ∷ []) [])) ⌝ }
+{
+    if wanted {
+        return code_word(codes, tables, w);
+    }
+}
+
+// A global that has an entry: only of a name is there an address.
+fn code_named(codes: &mut [u64], tables: &[u8], rec: &[u8], h: Header, k: u16, deref: bool)
+    requires { ⌜ (5 ≤ length (now codes)) × (now tables ≡ tableBytes) ⌝ }
+    ensures { λ _. ⌜ Coded (now (tables .entry)) (now (rec .entry)) (now (codes .entry)) (now (codes .exit)) (addressOf (deref || literalAt h (now (rec .entry)) (At k)) (entryToken h (now (rec .entry)) k)) ⌝ }
+{
+    let plain = deref | (entry_kind(from(rec, pairs_at(h)), k) != 3);
+    code_if(codes, tables, ADDRESS_OF, !plain);
+    code_entry(codes, tables, rec, h, k)
+}
+
+// A global that has none: word w is its prefix.
+fn code_unnamed(codes: &mut [u64], tables: &[u8], w: u8, va: u64, deref: bool)
+    requires { ⌜ (5 ≤ length (now codes)) × (now tables ≡ tableBytes) ⌝ }
+    requires { ⌜ w < 102 ⌝ }
+    ensures { λ _. ⌜ ((s : List ℕ) → Coded (now (tables .entry)) s (now (codes .entry)) (now (codes .exit)) (addressOf deref (prefixed (wordToken w) va))) ⌝ }
+{
+    code_if(codes, tables, ADDRESS_OF, !deref);
+    code_prefixed(codes, tables, w, va)
+}
+
 // A global: the atlas is searched once, for the `&` and for the token.
 fn code_global(codes: &mut [u64], tables: &[u8], rec: &[u8], h: Header, body: &[u8], deref: bool)
     requires { ⌜ Lent (now codes) (now tables) h (now rec) ⌝ }
     ensures { λ _. ⌜ Coded (now (tables .entry)) (now (rec .entry)) (now (codes .entry)) (now (codes .exit)) (global h (now (rec .entry)) deref (now (body .entry))) ⌝ }
 {
     let va = memory_address(body);
-    let found = entry_at(rec, h, va);
     let w = prefix_word(memory_size(body));
-    if deref | is_literal(rec, h, found) {
-        return code_found(codes, tables, rec, h, found, va, w);
+    match entry_at(rec, h, va) {
+        Found::At(k) => code_named(codes, tables, rec, h, k, deref),
+        Found::Nothing => code_unnamed(codes, tables, w, va, deref),
     }
-    code_word(codes, tables, ADDRESS_OF);
-    code_found(codes, tables, rec, h, found, va, w)
 }
 
 // A stack slot.
@@ -184,16 +217,6 @@ fn code_slot(codes: &mut [u64], tables: &[u8], h: Header, body: &[u8], deref: bo
     }
     code_word(codes, tables, ADDRESS_OF);
     code_prefixed(codes, tables, w, n.size)
-}
-
-// A word, or nothing.
-fn code_if(codes: &mut [u64], tables: &[u8], w: u8, wanted: bool)
-    requires { ⌜ (5 ≤ length (now codes)) × (now tables ≡ tableBytes) ⌝ }
-    ensures { λ _. ⌜ ((s : List ℕ) → Coded (now (tables .entry)) s (now (codes .entry)) (now (codes .exit)) (pick wanted (wordToken w ∷ []) [])) ⌝ }
-{
-    if wanted {
-        return code_word(codes, tables, w);
-    }
 }
 
 // The index with its scale.

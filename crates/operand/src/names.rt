@@ -1,4 +1,4 @@
-// Names of addresses: the entry of the atlas, the token of what was found, and the spans.
+// Names of addresses: the entry of the atlas, its token, and the spans.
 use codes::code::code_literal;
 use codes::code::code_part;
 use codes::code::code_prefixed;
@@ -17,7 +17,7 @@ use record::search::Found;
 use record::search::search;
 ghost use mathlib.Core.List.{[], _∷_};
 ghost use mathlib.Core.Path.{_≡_};
-ghost use Rattle.operand.specs.Names.{entryAt, entryToken, nameOrAt, nameOr, literalAt, inSpan};
+ghost use Rattle.operand.specs.Names.{entryAt, entryToken, nameOr, inSpan};
 ghost use Rattle.operand.specs.Lent.{Rising};
 ghost use Prim.Native.Nat.{_≤_, _<_, _+_};
 ghost use lib.ListN.{length};
@@ -34,16 +34,6 @@ pub fn entry_at(rec: &[u8], h: Header, va: u64) -> Found
     ensures { λ r. ⌜ r ≡ entryAt h (now (rec .entry)) va ⌝ }
 {
     search(from(rec, entries_at(h)), h.atlas, va)
-}
-
-// Whether a literal stands for what was found.
-pub fn is_literal(rec: &[u8], h: Header, found: Found) -> bool
-    ensures { λ r. ⌜ r ≡ literalAt h (now (rec .entry)) found ⌝ }
-{
-    match found {
-        Found::At(k) => entry_kind(from(rec, pairs_at(h)), k) != 3,
-        Found::Nothing => false,
-    }
 }
 
 // Whether an address lies in a span.
@@ -70,7 +60,7 @@ fn text_place(rec: &[u8], h: Header, k: u16) -> u32
 }
 
 // The token of entry k.
-fn code_entry(codes: &mut [u64], tables: &[u8], rec: &[u8], h: Header, k: u16)
+pub fn code_entry(codes: &mut [u64], tables: &[u8], rec: &[u8], h: Header, k: u16)
     requires { ⌜ 5 ≤ length (now codes) ⌝ }
     ensures { λ _. ⌜ Coded (now (tables .entry)) (now (rec .entry)) (now (codes .entry)) (now (codes .exit)) (entryToken h (now (rec .entry)) k ∷ []) ⌝ }
 {
@@ -84,32 +74,14 @@ fn code_entry(codes: &mut [u64], tables: &[u8], rec: &[u8], h: Header, k: u16)
     code_literal(codes, tables, rec, kind == 2, at, n)
 }
 
-// The token of what was found at an address, with word w as the prefix where nothing was.
-pub fn code_found(
-    codes: &mut [u64],
-    tables: &[u8],
-    rec: &[u8],
-    h: Header,
-    found: Found,
-    va: u64,
-    w: u8,
-)
-    requires { ⌜ (5 ≤ length (now codes)) × (now tables ≡ tableBytes) ⌝ }
-    requires { ⌜ w < 102 ⌝ }
-    ensures { λ _. ⌜ Coded (now (tables .entry)) (now (rec .entry)) (now (codes .entry)) (now (codes .exit)) (nameOrAt h (now (rec .entry)) found va (wordToken w) ∷ []) ⌝ }
-{
-    match found {
-        Found::At(k) => code_entry(codes, tables, rec, h, k),
-        Found::Nothing => code_prefixed(codes, tables, w, va),
-    }
-}
-
 // The token for an address.
 pub fn name_or(codes: &mut [u64], tables: &[u8], rec: &[u8], h: Header, va: u64, w: u8)
     requires { ⌜ Lent (now codes) (now tables) h (now rec) ⌝ }
     requires { ⌜ w < 102 ⌝ }
     ensures { λ _. ⌜ Coded (now (tables .entry)) (now (rec .entry)) (now (codes .entry)) (now (codes .exit)) (nameOr h (now (rec .entry)) va (wordToken w) ∷ []) ⌝ }
 {
-    let found = entry_at(rec, h, va);
-    code_found(codes, tables, rec, h, found, va, w)
+    match entry_at(rec, h, va) {
+        Found::At(k) => code_entry(codes, tables, rec, h, k),
+        Found::Nothing => code_prefixed(codes, tables, w, va),
+    }
 }

@@ -1,5 +1,5 @@
 -- `names::name_or` meets its contract.
--- The entry that was found is the definition's.
+-- By what was found.
 use mathlib.Core.Path.{sym}
 use Rattle.operand.specs.Names.{nameOr}
 use borrow.Author.Needs.{needs}
@@ -9,15 +9,42 @@ use Rattle.operand.proofs.names.name_or.Tie as tie
 entry-at-requires : tie.Need-entry-at-requires
 entry-at-requires c κs = search needs
 
-code-found-requires : tie.Need-code-found-requires
-code-found-requires c κs = search needs
+enum-known-k : tie.Need-enum-known-k
+enum-known-k c = search needs
+
+code-entry-requires : tie.Need-code-entry-requires
+code-entry-requires c κs = search needs
+
+enum-told : tie.Need-enum-told
+enum-told c = search needs
+
+code-prefixed-requires : tie.Need-code-prefixed-requires
+code-prefixed-requires c κs = search needs
 
 same-length : tie.Need-same-length
 same-length c = search needs
 
 returns : tie.Need-returns
 unfolding nameOr
-returns c = rw (sym (c .before .before .before .before .entry-at .ensures)) (c .before .before .code-found .ensures)
+returns c = rw (sym (c .before .before .before .before .before .before .before .entry-at .ensures), c .before .before .before .before .before .k .given .1) (c .before .before .code-entry .ensures)
+
+same-length-2 : tie.Need-same-length-2
+same-length-2 c = search needs
+
+returns-2 : tie.Need-returns-2
+unfolding nameOr
+returns-2 c = rw (sym (c .before .before .before .before .before .before .entry-at .ensures), c .before .before .before .before .enum-told .given .1) (c .before .before .code-prefixed .ensures (c .before .before .before .before .before .before .before .before .before .before .args .rec .now))
 
 pub name-or-spec : {M : Type 1} → statement M
-name-or-spec = tie.close (tie.spec entry-at-requires code-found-requires same-length returns)
+name-or-spec =
+    tie.close
+    (tie.spec
+    entry-at-requires
+    enum-known-k
+    code-entry-requires
+    enum-told
+    code-prefixed-requires
+    same-length
+    returns
+    same-length-2
+    returns-2)
