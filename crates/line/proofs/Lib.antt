@@ -4,6 +4,7 @@ pub mod Assembled
 pub mod CodedTurns
 pub mod Names
 pub mod PieceTokens
+pub mod SmallNumbers
 pub mod Turns
 pub mod LinesShown
 pub mod Longest

@@ -202,13 +202,21 @@ fn slot_of(piece: u8) -> u8
     if piece < 128 { 0 } else { piece - 128 }
 }
 
-// Operand k: most are registers.
+// Operand k: most are registers, memory and small numbers, which no span and no sign can change.
 fn code_operand(codes: &mut [u64], tables: &[u8], rec: &[u8], h: Header, body: &[u8], k: u8)
     requires { ⌜ Lent (now codes) (now tables) h (now rec) ⌝ }
     ensures { λ _. ⌜ Coded (now (tables .entry)) (now (rec .entry)) (now (codes .entry)) (now (codes .exit)) (opTokens h (now (rec .entry)) (now (body .entry)) k) ⌝ }
 {
-    if op_kind(body, k) == 0 {
+    let kind = op_kind(body, k);
+    if kind == 0 {
         return code_register(codes, tables, op_register(body, k));
+    }
+    if kind == 1 {
+        return mem(codes, tables, rec, h, body, true);
+    }
+    let number = op_number(body, k);
+    if (3 <= kind) & (kind <= 10) & (number < 4096) {
+        return code_num(codes, false, number);
     }
     op(codes, tables, rec, h, body, k)
 }
