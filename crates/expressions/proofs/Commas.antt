@@ -1,12 +1,12 @@
 -- Tokens behind commas: argument registers, pushed operands.
 -- What is left of the registers or of the pushes is one shorter at each turn.
 use mathlib.Core.Path.{_≡_, refl, sym, ap, _∙_}
-use mathlib.Core.Bool.{Bool, true, false, _||_}
+use mathlib.Core.Bool.{Bool, true, false, not, _&&_, _||_}
 use mathlib.Core.List.{List, [], _∷_, _++_}
 use Prim.Native.Nat.{ℕ, suc, _+_, _-_, _≤_, _<_}
 use native.Mathlib.Numerals.{add-one}
 use native.Mathlib.Omega.{arith}
-use lib.Dec.{ltb}
+use lib.Dec.{eqb, ltb}
 use lib.ListN.{length, take, drop, getD}
 use lib.Seq.{drop-cons}
 use borrow.Author.Tests.{lt-ltb, eq-eqb, ne-eqb}
@@ -16,9 +16,10 @@ use Rattle.x86.specs.Conventions.{argumentRegisters, argumentRegister, argument
 use Rattle.x86.proofs.Written.{up-to}
 use Rattle.record.specs.declared.header.Header.{Header}
 use Rattle.record.specs.Layout.{bodiesOf}
-use Rattle.record.specs.Body.{bodyAt}
+use Rattle.record.specs.Body.{bodyAt, mnemonicOf}
 use Rattle.operand.specs.Memory.{registerToken}
 use Rattle.operand.specs.Operand.{opTokens}
+use Rattle.flow.specs.Silent.{isSkipped}
 use Rattle.expressions.specs.Condition.{bodyOf}
 use Rattle.expressions.specs.Arguments.{commaIf, listed, registerArguments, isUnskipped, pushesBack, pushed, argumentTokens}
 
@@ -60,6 +61,57 @@ module _ (convention mask n : ℕ) (e : n ≡ argumentCount convention mask) whe
   unfolding registerArguments
   all-left = let d : n - 0 ≡ n = omega arith in rw (d, e)
 
+-- a call, a push or neither by its number: x a call, y a push, k skipped
+abbrev partBy : Bool → Bool → Bool → ℕ
+partBy x y k = pick (x && not k) 1 (pick (y && not k) 2 0)
+
+call-kept : (x y k : Bool) → x ≡ true → not k ≡ true → 1 ≡ partBy x y k
+call-kept x y k e f = rw (e, f)
+
+push-kept : (x y k : Bool) → x ≡ false → (x || y) ≡ true → not k ≡ true → 2 ≡ partBy x y k
+push-kept x y k e f g = rw (e, ap (λ (z : Bool). z || y) (sym e) ∙ f, g)
+
+skipped : (x y k : Bool) → not k ≡ false → 0 ≡ partBy x y k
+skipped true true k f = rw f
+skipped true false k f = rw f
+skipped false true k f = rw f
+skipped false false k f = refl
+
+other : (x y k : Bool) → (x || y) ≡ false → 0 ≡ partBy x y k
+other true y k f = ap (λ (b : Bool). pick b 0 (partBy true y k)) f
+other false y k f = rw f
+
+call-of : (c p : Bool) (w : ℕ) → w ≡ pick c 1 (pick p 2 0) → eqb w 1 ≡ c
+call-of true p w e = rw e
+call-of false true w e = rw e
+call-of false false w e = rw e
+
+push-of : (c p : Bool) (w : ℕ) → w ≡ pick c 1 (pick p 2 0) → c ≡ false → eqb w 2 ≡ p
+push-of c true w e f = rw (e, f)
+push-of c false w e f = rw (e, f)
+
+-- the same of instruction i, by its body and mnemonic as they were read
+module _ (frame : ℕ) (bodies b : List ℕ) (i m : ℕ) (p : b ≡ bodyAt bodies i) (q : m ≡ mnemonicOf b) where
+  abbrev part : ℕ
+  part = pick (isUnskipped frame bodies 23 i) 1 (pick (isUnskipped frame bodies 21 i) 2 0)
+
+  part-is : (k : Bool) → k ≡ isSkipped frame b → partBy (eqb m 23) (eqb m 21) k ≡ part
+  unfolding isUnskipped
+  part-is k r = rw (r, q, p)
+
+  pub part-other : (eqb m 23 || eqb m 21) ≡ false → 0 ≡ part
+  part-other f = other (eqb m 23) (eqb m 21) (isSkipped frame b) f ∙ part-is (isSkipped frame b) refl
+
+  module _ (k : Bool) (r : k ≡ isSkipped frame b) where
+    pub part-call : m ≡ 23 → not k ≡ true → 1 ≡ part
+    part-call e f = call-kept (eqb m 23) (eqb m 21) k (eq-eqb m 23 e) f ∙ part-is k r
+
+    pub part-push : (m ≡ 23 → ⊥) → (eqb m 23 || eqb m 21) ≡ true → not k ≡ true → 2 ≡ part
+    part-push e f g = push-kept (eqb m 23) (eqb m 21) k (ne-eqb m 23 e) f g ∙ part-is k r
+
+    pub part-skipped : not k ≡ false → 0 ≡ part
+    part-skipped f = skipped (eqb m 23) (eqb m 21) k f ∙ part-is k r
+
 -- the pushes before instruction k
 module _ (frame : ℕ) (bodies : List ℕ) (first k : ℕ) where
   back-step : first < k
@@ -77,11 +129,13 @@ module _ (frame : ℕ) (bodies : List ℕ) (first k : ℕ) where
     unfolding pushed pushesBack
     back-none l = let e : k - first ≡ 0 = omega arith in rw e
 
-    pub back-stop : (call : Bool) → first < k → call ≡ isUnskipped frame bodies 23 (k - 1) → call ≡ true → pushed h s comma (pushesBack frame bodies first (k - first)) ≡ []
+    pub back-stop : (w : ℕ) → first < k → w ≡ pick (isUnskipped frame bodies 23 (k - 1)) 1 (pick (isUnskipped frame bodies 21 (k - 1)) 2 0) → w ≡ 1
+        → pushed h s comma (pushesBack frame bodies first (k - first)) ≡ []
     unfolding pushed
-    back-stop call l p q =
+    back-stop w l p q =
         let rest = pushesBack frame bodies first (k - 1 - first) in
-        let none : pick (isUnskipped frame bodies 23 (k - 1)) [] (pick (isUnskipped frame bodies 21 (k - 1)) ((k - 1) ∷ rest) rest) ≡ [] = rw (← p, q) in
+        let call : isUnskipped frame bodies 23 (k - 1) ≡ true = sym (call-of (isUnskipped frame bodies 23 (k - 1)) (isUnskipped frame bodies 21 (k - 1)) w p) ∙ eq-eqb w 1 q in
+        let none : pick (isUnskipped frame bodies 23 (k - 1)) [] (pick (isUnskipped frame bodies 21 (k - 1)) ((k - 1) ∷ rest) rest) ≡ [] = rw call in
         ap (pushed h s comma) (back-step l ∙ none)
 
 pushed-front : (h : Header) (s : List ℕ) (comma kept : Bool) (j : ℕ) (is : List ℕ)
@@ -92,16 +146,18 @@ pushed-front h s true false j is = refl
 pushed-front h s false true j is = refl
 pushed-front h s false false j is = refl
 
-module _ (h : Header) (s : List ℕ) (frame : ℕ) (bodies : List ℕ) (e : bodies ≡ bodiesOf h s) (first k : ℕ) (l : first < k) (comma kept call : Bool)
-    (p : call ≡ isUnskipped frame bodies 23 (k - 1)) (q : call ≡ false) (r : kept ≡ isUnskipped frame bodies 21 (k - 1)) (b : List ℕ) (t : b ≡ bodyAt bodies (k - 1)) where
+module _ (h : Header) (s : List ℕ) (frame : ℕ) (bodies : List ℕ) (e : bodies ≡ bodiesOf h s) (first k : ℕ) (l : first < k) (comma : Bool) (w : ℕ)
+    (p : w ≡ pick (isUnskipped frame bodies 23 (k - 1)) 1 (pick (isUnskipped frame bodies 21 (k - 1)) 2 0)) (q : w ≡ 1 → ⊥) (b : List ℕ) (t : b ≡ bodyAt bodies (k - 1)) where
   pub back-turn : pushed h s comma (pushesBack frame bodies first (k - first))
-      ≡ pick kept (commaIf comma (opTokens h s b 0)) [] ++ pushed h s (comma || kept) (pushesBack frame bodies first (k - 1 - first))
+      ≡ pick (eqb w 2) (commaIf comma (opTokens h s b 0)) [] ++ pushed h s (comma || eqb w 2) (pushesBack frame bodies first (k - 1 - first))
   back-turn =
       let rest = pushesBack frame bodies first (k - 1 - first) in
-      let front : pick (isUnskipped frame bodies 23 (k - 1)) [] (pick (isUnskipped frame bodies 21 (k - 1)) ((k - 1) ∷ rest) rest) ≡ pick kept ((k - 1) ∷ rest) rest = rw (← p, q, ← r) in
+      let call : isUnskipped frame bodies 23 (k - 1) ≡ false = sym (call-of (isUnskipped frame bodies 23 (k - 1)) (isUnskipped frame bodies 21 (k - 1)) w p) ∙ ne-eqb w 1 q in
+      let push : isUnskipped frame bodies 21 (k - 1) ≡ eqb w 2 = sym (push-of (isUnskipped frame bodies 23 (k - 1)) (isUnskipped frame bodies 21 (k - 1)) w p call) in
+      let front : pick (isUnskipped frame bodies 23 (k - 1)) [] (pick (isUnskipped frame bodies 21 (k - 1)) ((k - 1) ∷ rest) rest) ≡ pick (eqb w 2) ((k - 1) ∷ rest) rest = rw (call, push) in
       let body : bodyOf h s (k - 1) ≡ b = sym (t ∙ ap (λ (x : List ℕ). bodyAt x (k - 1)) e) in
-      ap (pushed h s comma) (back-step frame bodies first k l ∙ front) ∙ pushed-front h s comma kept (k - 1) rest
-      ∙ ap (λ (x : List ℕ). pick kept (commaIf comma (opTokens h s x 0)) [] ++ pushed h s (comma || kept) rest) body
+      ap (pushed h s comma) (back-step frame bodies first k l ∙ front) ∙ pushed-front h s comma (eqb w 2) (k - 1) rest
+      ∙ ap (λ (x : List ℕ). pick (eqb w 2) (commaIf comma (opTokens h s x 0)) [] ++ pushed h s (comma || eqb w 2) rest) body
 
 -- which arguments, by the bits
 module _ (h : Header) (s : List ℕ) (first i mask : ℕ) where

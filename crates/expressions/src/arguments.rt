@@ -24,6 +24,7 @@ ghost use mathlib.Core.List.{[], _∷_, List};
 ghost use lib.Dec.{ltb};
 ghost use Rattle.lists.specs.Choice.{pick};
 ghost use Prim.Native.Nat.{_-_, ℕ, _≤_};
+ghost use Rattle.x86.specs.Mnemonics.{push, call};
 ghost use Rattle.x86.specs.Conventions.{argumentRegister};
 ghost use Rattle.operand.specs.Memory.{registerToken};
 ghost use Rattle.record.specs.Layout.{bodiesOf};
@@ -48,16 +49,19 @@ pub fn written_after(isa: &[u8], mask: u16, body: &[u8]) -> u16
     mask
 }
 
-// Whether instruction i has mnemonic m and is not skipped.
-fn is_unskipped(isa: &[u8], bodies: &[u8], frame: u16, m: u8, i: u16) -> bool
+// What instruction i is to the pushes of a call behind it: 1 a call that ends them, 2 one of them, 0 neither.
+fn push_part(isa: &[u8], bodies: &[u8], frame: u16, i: u16) -> u8
     requires { ⌜ now isa ≡ isaBytes ⌝ }
-    ensures { λ r. ⌜ r ≡ isUnskipped frame (now (bodies .entry)) m i ⌝ }
+    ensures { λ r. ⌜ r ≡ pick (isUnskipped frame (now (bodies .entry)) call i) 1 (pick (isUnskipped frame (now (bodies .entry)) push i) 2 0) ⌝ }
 {
     let body = body_at(bodies, i);
-    if mnemonic(body) == m {
-        return !is_skipped(isa, frame, body);
+    let m = mnemonic(body);
+    if (m == 23) | (m == 21) {
+        if !is_skipped(isa, frame, body) {
+            return if m == 23 { 1 } else { 2 };
+        }
     }
-    false
+    0
 }
 
 // Argument register k, behind a comma unless it is the first.
@@ -136,13 +140,13 @@ fn pushed_arguments(codes: &mut [u64], tables: &[u8], rec: &[u8], h: Header, fir
     let mut k = i;
     while first < k {
         let j = k - 1;
-        if is_unskipped(isa, bodies, frame, 23, j) {
+        let part = push_part(isa, bodies, frame, j);
+        if part == 1 {
             return;
         }
-        let kept = is_unskipped(isa, bodies, frame, 21, j);
         let body = body_at(bodies, j);
-        code_pushed(codes, tables, rec, h, body, comma, kept);
-        comma = comma | kept;
+        code_pushed(codes, tables, rec, h, body, comma, part == 2);
+        comma = comma | (part == 2);
         k = j;
     }
 }

@@ -25,7 +25,6 @@ ghost use Rattle.record.specs.Layout.{textsAt, pairsOf};
 ghost use Rattle.record.specs.Atlas.{textStart};
 ghost use Rattle.tokens.specs.Words.{wordToken};
 ghost use Rattle.codes.specs.Coded.{Coded};
-ghost use Rattle.codes.specs.Tables.{tableBytes};
 ghost use Rattle.operand.specs.Lent.{Lent};
 
 // The entry at an address.

@@ -39,8 +39,8 @@ loop-holds c = (refl, at-start (coded-none _ _ _ (c .before .before .before .bef
 sub-j : tie.Need-sub-j Inv-loop μ-loop
 sub-j c = search needs
 
-is-unskipped-requires : tie.Need-is-unskipped-requires Inv-loop μ-loop
-is-unskipped-requires c κs = search needs
+push-part-requires : tie.Need-push-part-requires Inv-loop μ-loop
+push-part-requires c κs = search needs
 
 same-length : tie.Need-same-length Inv-loop μ-loop
 same-length c = search needs
@@ -48,10 +48,7 @@ same-length c = search needs
 returns : tie.Need-returns Inv-loop μ-loop
 returns c =
     let a = c .before .before .before .before .before .before .before .before .before .before .args in
-    as-tokens (all-pushed (a .h) (a .rec .now) _ (a .first) (a .i) (bodies-are (a .h) (a .rec .now) (c .before .before .before .before .from .ensures .0) (c .before .before .before .before .before .bodies-at .ensures .0))) (at-end (c .before .before .before .loop .inv .1) (back-stop _ _ _ (c .before .before .before .loop .k) (a .h) (a .rec .now) (c .before .before .before .loop .comma) _ (c .before .before .loop-test .taken) (c .before .is-unskipped .ensures) (c .if1 .taken)))
-
-is-unskipped-requires-2 : tie.Need-is-unskipped-requires-2 Inv-loop μ-loop
-is-unskipped-requires-2 c κs = search needs
+    as-tokens (all-pushed (a .h) (a .rec .now) _ (a .first) (a .i) (bodies-are (a .h) (a .rec .now) (c .before .before .before .before .from .ensures .0) (c .before .before .before .before .before .bodies-at .ensures .0))) (at-end (c .before .before .before .loop .inv .1) (back-stop _ _ _ (c .before .before .before .loop .k) (a .h) (a .rec .now) (c .before .before .before .loop .comma) _ (c .before .before .loop-test .taken) (c .before .push-part .ensures) (c .if1 .taken)))
 
 body-at-requires : tie.Need-body-at-requires Inv-loop μ-loop
 body-at-requires c κs = search needs
@@ -64,9 +61,9 @@ loop-less c = search needs
 
 loop-again : tie.Need-loop-again Inv-loop μ-loop
 loop-again c =
-    let a = c .before .before .before .before .before .before .before .before .before .before .before .before .before .before .before .before .args in (
-      omega (arith, (c .before .before .code-pushed .kept .0), (c .before .before .before .before .before .before .before .before .before .loop .inv .0)),
-      further (c .before .before .before .before .before .before .before .before .before .loop .inv .1) (back-turn (a .h) (a .rec .now) _ _ (bodies-are (a .h) (a .rec .now) (c .before .before .before .before .before .before .before .before .before .before .from .ensures .0) (c .before .before .before .before .before .before .before .before .before .before .before .bodies-at .ensures .0)) _ (c .before .before .before .before .before .before .before .before .before .loop .k) (c .before .before .before .before .before .before .before .before .loop-test .taken) (c .before .before .before .before .before .before .before .before .before .loop .comma) _ _ (c .before .before .before .before .before .before .before .is-unskipped .ensures) (c .before .before .before .before .before .before .if1 .left) (c .before .before .before .before .before .is-unskipped2 .ensures) _ (c .before .before .before .before .body-at .ensures)) (c .before .before .code-pushed .ensures),
+    let a = c .before .before .before .before .before .before .before .before .before .before .before .before .before .before .before .args in (
+      omega (arith, (c .before .before .code-pushed .kept .0), (c .before .before .before .before .before .before .before .before .loop .inv .0)),
+      further (c .before .before .before .before .before .before .before .before .loop .inv .1) (back-turn (a .h) (a .rec .now) _ _ (bodies-are (a .h) (a .rec .now) (c .before .before .before .before .before .before .before .before .before .from .ensures .0) (c .before .before .before .before .before .before .before .before .before .before .bodies-at .ensures .0)) _ (c .before .before .before .before .before .before .before .before .loop .k) (c .before .before .before .before .before .before .before .loop-test .taken) (c .before .before .before .before .before .before .before .before .loop .comma) _ (c .before .before .before .before .before .before .push-part .ensures) (c .before .before .before .before .before .if1 .left) _ (c .before .before .before .before .body-at .ensures)) (c .before .before .code-pushed .ensures),
     )
 
 same-length-2 : tie.Need-same-length-2 Inv-loop μ-loop
@@ -88,10 +85,9 @@ pushed-arguments-spec =
     from-requires
     loop-holds
     sub-j
-    is-unskipped-requires
+    push-part-requires
     same-length
     returns
-    is-unskipped-requires-2
     body-at-requires
     code-pushed-requires
     loop-less
