@@ -3,8 +3,12 @@ use lists::reads::from;
 use lists::reads::u8_at;
 use lists::reads::u64_at;
 ghost use mathlib.Core.Path.{_≡_};
+ghost use mathlib.Core.Bool.{_&&_};
 ghost use Prim.Native.Nat.{_*_, _<_, _≤_};
 ghost use lib.ListN.{length};
+ghost use lib.Dec.{ltb, leb};
+ghost use Rattle.lists.specs.Bytes.{u8At};
+ghost use Rattle.lists.specs.Choice.{allBelow};
 ghost use Rattle.record.specs.Atlas.{entryAddress, entryKind, entryLength, textStart, entryKindOk, textByteOk, textOk, entriesOk, textsOk, atlasOk, spanFirst, spanLast, spansOk};
 
 pub fn entry_address(entries: &[u8], k: u16) -> u64
@@ -86,10 +90,53 @@ fn text_byte_ok(kind: u8, c: u8) -> bool
     c < 0x80
 }
 
+// The n bytes of a name that are there: no test of the length stands between the reads.
+fn plain_name_ok(text: &[u8], n: usize) -> bool
+    requires { ⌜ n ≤ length (now text) ⌝ }
+    ensures { λ r. ⌜ r ≡ allBelow (λ j. leb 0x20 (u8At (now (text .entry)) j) && leb (u8At (now (text .entry)) j) 0x7e) n ⌝ }
+{
+    let mut ok = true;
+    let mut j: usize = 0;
+    while j < n {
+        let c = text[j];
+        ok = ok & ((0x20 <= c) & (c <= 0x7e));
+        j += 1;
+    }
+    ok
+}
+
+// The same of a string.
+fn plain_string_ok(text: &[u8], n: usize) -> bool
+    requires { ⌜ n ≤ length (now text) ⌝ }
+    ensures { λ r. ⌜ r ≡ allBelow (λ j. ltb (u8At (now (text .entry)) j) 0x80) n ⌝ }
+{
+    let mut ok = true;
+    let mut j: usize = 0;
+    while j < n {
+        ok = ok & (text[j] < 0x80);
+        j += 1;
+    }
+    ok
+}
+
+// A text of n bytes that are there.
+fn plain_text_ok(kind: u8, n: u8, text: &[u8]) -> bool
+    requires { ⌜ n ≤ length (now text) ⌝ }
+    ensures { λ r. ⌜ r ≡ textOk kind n (now (text .entry)) ⌝ }
+{
+    if kind == 3 {
+        return (1 <= n) & plain_name_ok(text, n as usize);
+    }
+    plain_string_ok(text, n as usize)
+}
+
 // A text of n bytes at the beginning of a part.
 fn text_ok(kind: u8, n: u8, text: &[u8]) -> bool
     ensures { λ r. ⌜ r ≡ textOk kind n (now (text .entry)) ⌝ }
 {
+    if n as usize <= text.len() {
+        return plain_text_ok(kind, n, text);
+    }
     let mut ok = true;
     let mut j: u8 = 0;
     while j < n {

@@ -1,5 +1,5 @@
 -- `text_ok` meets its contract.
--- The invariant: so far every byte suits the kind, or `ok` is false.
+-- Where bytes are missing the invariant: so far every byte suits the kind, or `ok` is false.
 use mathlib.Core.Path.{_≡_}
 use Prim.Native.Nat.{_≤_, _-_}
 use native.Mathlib.Omega.{arith}
@@ -16,6 +16,12 @@ Inv-loop kind n text ok₀ j₀ ok j = (j ≤ n) × (ok ≡ allBelow (λ m. text
 
 abbrev μ-loop : tie.MeasureT-loop
 μ-loop kind n text ok₀ j₀ ok j = n - j
+
+plain-text-ok-requires : tie.Need-plain-text-ok-requires Inv-loop μ-loop
+plain-text-ok-requires c κs = search needs
+
+returns : tie.Need-returns Inv-loop μ-loop
+returns c = search needs
 
 loop-holds : tie.Need-loop-holds Inv-loop μ-loop
 loop-holds c = search needs
@@ -38,11 +44,11 @@ loop-less c = search needs
 loop-again : tie.Need-loop-again Inv-loop μ-loop
 loop-again c = (search needs, simp (all-more, c .before .before .before .loop .inv .1, c .text-byte-ok .ensures, c .before .u8-at .ensures .0))
 
-returns : tie.Need-returns Inv-loop μ-loop
+returns-2 : tie.Need-returns-2 Inv-loop μ-loop
 unfolding textOk
-returns c =
+returns-2 c =
     let l = c .before in
-    let e : l .loop .j ≡ l .before .before .args .n = omega arith in
+    let e : l .loop .j ≡ l .before .before .before .args .n = omega arith in
     simp (l .loop .inv .1, e)
 
 pub text-ok-spec : {M : Type 1} → statement M
@@ -51,6 +57,8 @@ text-ok-spec =
     (tie.spec
     Inv-loop
     μ-loop
+    plain-text-ok-requires
+    returns
     loop-holds
     cast-u8-at
     u8-at-requires
@@ -58,4 +66,4 @@ text-ok-spec =
     add-j
     loop-less
     loop-again
-    returns)
+    returns-2)
