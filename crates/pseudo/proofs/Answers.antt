@@ -105,6 +105,13 @@ module _ (h : Header) (s : List ℕ) (range : ℕ) (codes : List ℕ) (z : Sizes
   sizes-again : z ≡ sizesOf t codes → z ≡ sizesOf t va
   sizes-again q = q ∙ sizes-of-lines h s codes t
 
+  -- no question of room gets a no: there is room for the addresses and marks
+  pub plan-room : z ≡ sizesOf t codes → n ≡ roomNo z (roomsOf x e k a m l) → n ≡ 0 → (length codes ≤ length a) × (length codes ≤ length m)
+  plan-room q p o =
+      let y = room-yes z (roomsOf x e k a m l) (sym p ∙ o) in
+      let count : z .lines ≡ length codes = ap (λ (z : Sizes). z .lines) q in
+      (omega (arith, y .addresses, count), omega (arith, y .marks, count))
+
   -- no question of room gets a no: the lists are as long as the listing's
   pub plan-holds : z ≡ sizesOf t codes → n ≡ roomNo z (roomsOf x e k a m l) → n ≡ 0 → Holds t x e k l
   plan-holds q p o =

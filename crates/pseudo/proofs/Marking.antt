@@ -73,9 +73,9 @@ module _ (code w d : ℕ) (e : w ≡ whatIn code) (f : d ≡ indentIn code) wher
 
 -- a loop over the codes
 module _ (f : Line → ℕ) where
-  pub marks-turn : (l l′ r cs : List ℕ) (i x : ℕ) → i < length cs → x ≡ f (lineIn (getD cs i 0)) → l′ ≡ set l i x
-      → put i (map f (map lineIn (drop i cs))) l ≡ r → put (i + 1) (map f (map lineIn (drop (i + 1) cs))) l′ ≡ r
-  marks-turn l l′ r cs i x p a b q = rw (b, a, add-one) (sym (put-cons i _ _ l ∙ rw add-one) ∙ rw (drop-cons cs i 0 p) at q)
+  pub marks-turn : (l r cs : List ℕ) (i x : ℕ) → i < length cs → x ≡ f (lineIn (getD cs i 0))
+      → put i (map f (map lineIn (drop i cs))) l ≡ r → put (i + 1) (map f (map lineIn (drop (i + 1) cs))) (set l i x) ≡ r
+  marks-turn l r cs i x p a q = rw (a, add-one) (sym (put-cons i _ _ l ∙ rw add-one) ∙ rw (drop-cons cs i 0 p) at q)
 
   pub marks-done : (l r cs : List ℕ) (i : ℕ) → length cs ≤ i → put i (map f (map lineIn (drop i cs))) l ≡ r → l ≡ r
   marks-done l r cs i p q = sym (put-none i l) ∙ rw (drop-of-length-le cs p) at q

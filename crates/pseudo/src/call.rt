@@ -1,6 +1,5 @@
 // The call that lists a range.
 use crate::coding::code_plan;
-use crate::marks::put_addresses;
 use crate::marks::put_marks;
 use crate::rooms::Rooms;
 use crate::rooms::Sizes;
@@ -92,8 +91,7 @@ fn list_coded(
         range,
         plan,
     );
-    put_addresses(addresses, rec, h, plan);
-    put_marks(marks, plan);
+    put_marks(addresses, marks, rec, h, plan);
     Answer::Listed(sizes)
 }
 

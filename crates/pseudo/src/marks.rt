@@ -1,7 +1,5 @@
 // The lines' addresses and marks, each from its line's code.
 use lists::reads::from;
-use lists::stores::store_u16;
-use lists::stores::store_u64;
 use record::blocks::Place;
 use record::blocks::start_at;
 use record::body::address_at;
@@ -13,7 +11,8 @@ use structure::codes::place_of_line;
 use structure::codes::what_of;
 ghost use mathlib.Core.List.{map};
 ghost use mathlib.Core.Path.{_≡_};
-ghost use Prim.Native.Nat.{_<_};
+ghost use Prim.Native.Nat.{_<_, _≤_};
+ghost use lib.ListN.{length};
 ghost use Rattle.lists.specs.Put.{put};
 ghost use Rattle.structure.specs.Reads.{indentIn};
 ghost use Rattle.line.specs.Lines.{lineIn};
@@ -46,23 +45,18 @@ fn line_mark(code: u64) -> u16
     indent + 256
 }
 
-pub fn put_addresses(out: &mut [u64], rec: &[u8], h: Header, codes: &[u64])
-    ensures { λ _. ⌜ now (out .exit) ≡ put 0 (map (lineAddress h (now (rec .entry))) (map lineIn (now (codes .entry)))) (now (out .entry)) ⌝ }
-{
-    let mut i = 0;
-    while i < codes.len() {
-        store_u64(out, i, line_address(rec, h, codes[i]));
-        i += 1;
-    }
-}
-
-pub fn put_marks(out: &mut [u16], codes: &[u64])
+// The address and the mark of each line, into lists that have room for them.
+pub fn put_marks(addresses: &mut [u64], marks: &mut [u16], rec: &[u8], h: Header, codes: &[u64])
     requires { ⌜ Indented (now codes) ⌝ }
-    ensures { λ _. ⌜ now (out .exit) ≡ put 0 (map lineMark (map lineIn (now (codes .entry)))) (now (out .entry)) ⌝ }
+    requires { ⌜ (length (now codes) ≤ length (now addresses)) × (length (now codes) ≤ length (now marks)) ⌝ }
+    ensures addresses { λ _. ⌜ now (addresses .exit) ≡ put 0 (map (lineAddress h (now (rec .entry))) (map lineIn (now (codes .entry)))) (now (addresses .entry)) ⌝ }
+    ensures marks { λ _. ⌜ now (marks .exit) ≡ put 0 (map lineMark (map lineIn (now (codes .entry)))) (now (marks .entry)) ⌝ }
 {
     let mut i = 0;
     while i < codes.len() {
-        store_u16(out, i, line_mark(codes[i]));
+        let code = codes[i];
+        addresses[i] = line_address(rec, h, code);
+        marks[i] = line_mark(code);
         i += 1;
     }
 }

@@ -1,5 +1,5 @@
 -- `put_marks` meets its contract.
--- The invariant: the marks left, stored from here, are all of them stored from the start.
+-- The invariant: the addresses and the marks left, stored from here, are all of them stored from the start.
 use mathlib.Core.Path.{_≡_, refl}
 use mathlib.Core.List.{map}
 use Prim.Native.Nat.{_≤_, _-_}
@@ -7,47 +7,74 @@ use native.Mathlib.Omega.{arith}
 use lib.ListN.{length, drop}
 use Rattle.lists.specs.Put.{put}
 use Rattle.line.specs.Lines.{lineIn}
-use Rattle.pseudo.specs.Listed.{lineMark}
+use Rattle.pseudo.specs.Listed.{lineAddress, lineMark}
 use Rattle.pseudo.proofs.Marking.{marks-turn, marks-done}
 use borrow.Author.Needs.{needs}
 use Rattle.pseudo.proofs.marks.put_marks.Statement.{statement}
 use Rattle.pseudo.proofs.marks.put_marks.Tie as tie
 
 abbrev Inv-loop : tie.InvT-loop
-Inv-loop out₀ codes i₀ out i = (length out ≡ length out₀) × (i ≤ length codes) × (put i (map lineMark (map lineIn (drop i codes))) out ≡ put 0 (map lineMark (map lineIn codes)) out₀)
+Inv-loop addresses₀ marks₀ rec h codes i₀ addresses marks i =
+    (i ≤ length codes) × (length addresses ≡ length addresses₀) × (length marks ≡ length marks₀)
+    × (put i (map (lineAddress h rec) (map lineIn (drop i codes))) addresses ≡ put 0 (map (lineAddress h rec) (map lineIn codes)) addresses₀)
+    × (put i (map lineMark (map lineIn (drop i codes))) marks ≡ put 0 (map lineMark (map lineIn codes)) marks₀)
 
 abbrev μ-loop : tie.MeasureT-loop
-μ-loop out₀ codes i₀ out i = length codes - i
+μ-loop addresses₀ marks₀ rec h codes i₀ addresses marks i = length codes - i
 
 loop-holds : tie.Need-loop-holds Inv-loop μ-loop
-loop-holds c = (refl, search needs, refl)
+loop-holds c = (search needs, refl, refl, refl, refl)
 
-mul-line-mark : tie.Need-mul-line-mark Inv-loop μ-loop
-mul-line-mark c = search needs
+mul-code : tie.Need-mul-code Inv-loop μ-loop
+mul-code c = search needs
 
-shared-slice-read-line-mark : tie.Need-shared-slice-read-line-mark Inv-loop μ-loop
-shared-slice-read-line-mark c = search needs
+shared-slice-read-code : tie.Need-shared-slice-read-code Inv-loop μ-loop
+shared-slice-read-code c = search needs
+
+line-address-requires : tie.Need-line-address-requires Inv-loop μ-loop
+line-address-requires c κs = search needs
+
+mul-addresses : tie.Need-mul-addresses Inv-loop μ-loop
+mul-addresses c = omega (arith, (c .before .before .loop-test .taken), (c .before .before .before .before .before .before .before .before .good .1 .1 .1 .1 .0 .1))
+
+slice-write-addresses : tie.Need-slice-write-addresses Inv-loop μ-loop
+slice-write-addresses c = omega (arith, (c .before .before .loop-test .taken), (c .before .before .before .loop .inv .1), (c .before .before .before .before .before .before .before .before .pre .1 .0))
 
 line-mark-requires : tie.Need-line-mark-requires Inv-loop μ-loop
-line-mark-requires c κs = (c .before .before .before .before .before .before .pre) _ ((c .before .before .loop-test) .taken)
+line-mark-requires c κs = (c .before .before .before .before .before .before .before .before .pre .0) _ (c .before .before .loop-test .taken)
 
-store-u16-requires : tie.Need-store-u16-requires Inv-loop μ-loop
-store-u16-requires c κs = search needs
+mul-marks : tie.Need-mul-marks Inv-loop μ-loop
+mul-marks c = omega (arith, (c .before .before .before .loop-test .taken), (c .before .before .before .before .before .before .before .before .before .good .1 .1 .1 .1 .0 .1))
+
+slice-write-marks : tie.Need-slice-write-marks Inv-loop μ-loop
+slice-write-marks c = omega (arith, (c .before .before .before .loop-test .taken), (c .before .before .before .before .loop .inv .2), (c .before .before .before .before .before .before .before .before .before .pre .1 .1))
 
 add-i : tie.Need-add-i Inv-loop μ-loop
-add-i c = search needs
+add-i c = omega (arith, (c .before .before .before .loop-test .taken), (c .before .before .before .before .before .before .before .before .before .good .1 .1 .1 .1 .0 .0))
 
 loop-less : tie.Need-loop-less Inv-loop μ-loop
-loop-less c = search needs
+loop-less c = omega (arith, (c .before .before .before .loop-test .taken))
 
 loop-again : tie.Need-loop-again Inv-loop μ-loop
-loop-again c = (search needs, omega (arith, (c .before .before .before .before .before .before .loop-test) .taken), marks-turn lineMark _ _ _ ((c .before .before .before .before .before .before .before .before .before .before .args) .codes .now) _ _ ((c .before .before .before .before .before .before .loop-test) .taken) ((c .before .before .before .line-mark) .ensures) ((c .before .before .store-u16) .ensures) ((c .before .before .before .before .before .before .before .loop) .inv .2))
+loop-again c = (
+  omega (arith, (c .before .before .before .loop-test .taken)),
+  search needs,
+  search needs,
+  marks-turn (lineAddress (c .before .before .before .before .before .before .before .before .before .args .h) (c .before .before .before .before .before .before .before .before .before .args .rec .now)) _ _ (c .before .before .before .before .before .before .before .before .before .args .codes .now) _ _ (c .before .before .before .loop-test .taken) (c .before .line-address .ensures) (c .before .before .before .before .loop .inv .3),
+  marks-turn lineMark _ _ (c .before .before .before .before .before .before .before .before .before .args .codes .now) _ _ (c .before .before .before .loop-test .taken) (c .line-mark .ensures) (c .before .before .before .before .loop .inv .4),
+)
 
 same-length : tie.Need-same-length Inv-loop μ-loop
 same-length c = search needs
 
+same-length-2 : tie.Need-same-length-2 Inv-loop μ-loop
+same-length-2 c = search needs
+
 returns : tie.Need-returns Inv-loop μ-loop
-returns c = marks-done lineMark _ _ ((c .before .before .before .before .args) .codes .now) _ ((c .loop-test) .left) ((c .before .loop) .inv .2)
+returns c = (
+  marks-done (lineAddress (c .before .before .before .before .before .before .args .h) (c .before .before .before .before .before .before .args .rec .now)) _ _ (c .before .before .before .before .before .before .args .codes .now) _ (c .loop-test .left) (c .before .loop .inv .3),
+  marks-done lineMark _ _ (c .before .before .before .before .before .before .args .codes .now) _ (c .loop-test .left) (c .before .loop .inv .4),
+)
 
 pub put-marks-spec : {M : Type 1} → statement M
 put-marks-spec =
@@ -56,12 +83,17 @@ put-marks-spec =
     Inv-loop
     μ-loop
     loop-holds
-    mul-line-mark
-    shared-slice-read-line-mark
+    mul-code
+    shared-slice-read-code
+    line-address-requires
+    mul-addresses
+    slice-write-addresses
     line-mark-requires
-    store-u16-requires
+    mul-marks
+    slice-write-marks
     add-i
     loop-less
     loop-again
     same-length
+    same-length-2
     returns)
