@@ -1,7 +1,7 @@
 -- The laws by which coders of lines compose: no line, one line with its end, and lines behind lines.
 -- At the start of a line no token counts as Text and none joins what is before; what lines count, and the codes they have, are sums along the list.
 use mathlib.Core.Path.{_≡_, refl, sym, ap, _∙_}
-use mathlib.Core.Bool.{false}
+use mathlib.Core.Bool.{true, false}
 use mathlib.Core.List.{List, [], _∷_, _++_, append-assoc, append-nil}
 use Prim.Native.Nat.{ℕ, _+_, _*_, _≤_, _<_}
 use native.Mathlib.Omega.{arith}
@@ -13,12 +13,12 @@ use Rattle.lists.specs.Put.{put}
 use Rattle.lists.specs.PutLaws.{put-none, put-append, put-fits}
 use Rattle.tokens.specs.Token.{Token}
 use Rattle.tokens.specs.Listing.{textOf, join, all, bytesOf, pushesOf}
-use Rattle.codes.specs.Code.{Event, codeOf, lineEnd, decode}
+use Rattle.codes.specs.Code.{Event, codeOf, lineEnd, allInTable, decode}
 use Rattle.codes.specs.Code.Event.{end}
 use Rattle.codes.specs.Coded.{counted, fresh, marked, countIn, isPlain, codesIn, Coded, Ended, Started}
 use Rattle.codes.specs.Lines.{ofLines, AtLine, CodedLines}
 use Rattle.codes.proofs.Coding.{wrap-more}
-use Rattle.codes.proofs.Decoded.{first, event-end}
+use Rattle.codes.proofs.Decoded.{first, event-end, one-in}
 use Rattle.codes.proofs.LineFresh.{join-fresh}
 
 -- tokens that do not count as Text count as they are
@@ -80,6 +80,7 @@ module _ (t s : List ℕ) where
         next = a;
         codes = λ l. sym (put-none _ _);
         reads = λ r. refl;
+        within = λ r. refl;
         few = omega arith;
       }
 
@@ -99,6 +100,7 @@ module _ (t s : List ℕ) where
             e .codes ∙ rw (put-append, d, f .codes (omega (arith, h, n)));
         reads = λ r.
             ap (decode t s) (append-assoc (f .cells) (E ∷ []) r) ∙ f .reads (E ∷ r) ∙ rw (same, a .last, end-reads t s r) (sym (line-events l (decode t s r)));
+        within = λ r. ap (allInTable (length t)) (append-assoc (f .cells) (E ∷ []) r) ∙ f .within (E ∷ r) ∙ one-in (length t) E r refl refl;
         few = omega (arith, f .few, n, line-pushes l);
       }
 
@@ -117,6 +119,7 @@ module _ (t s : List ℕ) where
         reads = λ r.
             ap (decode t s) (append-assoc (f .cells) (g .cells) r) ∙ f .reads (g .cells ++ r) ∙ ap (λ (l : List Event). ofLines a ++ l) (g .reads r)
             ∙ sym (append-assoc (ofLines a) (ofLines b) (decode t s r)) ∙ ap (λ (l : List Event). l ++ decode t s r) (sym (lines-append a b));
+        within = λ r. ap (allInTable (length t)) (append-assoc (f .cells) (g .cells) r) ∙ f .within (g .cells ++ r) ∙ g .within r;
         few = omega (arith, f .few, g .few, length-append (f .cells) (g .cells), pushes-append a b, length-append a b);
       }
 
@@ -132,15 +135,25 @@ module _ (t s : List ℕ) where
     unfolding decode
     cells-read = ap (decode t s) (sym (append-nil (f .cells))) ∙ f .reads [] ∙ append-nil (ofLines ls)
 
-    -- where the list holds all codes they read back as the lines
-    pub read-back : 5 + countIn c′ ≤ length c → decode t s (take (countIn c′) (codesIn c′)) ≡ ofLines ls
-    read-back room =
-        let n = count-is in
-        let z : countIn c ≡ 0 = a .no-codes in
-        let fits : 0 + length (f .cells) ≤ length (codesIn c) = omega (arith, length-drop 5 c, n, room) in
-        let codes : codesIn c′ ≡ put 0 (f .cells) (codesIn c) = f .codes (omega (arith, z, f .few, small)) ∙ ap (λ (k : ℕ). put k (f .cells) (codesIn c)) z in
-        let front : take (countIn c′) (codesIn c′) ≡ f .cells = rw (codes, put-fits 0 (f .cells) (codesIn c) fits) (take-at (f .cells) _ (countIn c′) (sym n)) in
-        ap (decode t s) front ∙ cells-read
+    cells-within : allInTable (length t) (f .cells) ≡ true
+    unfolding allInTable
+    cells-within = ap (allInTable (length t)) (sym (append-nil (f .cells))) ∙ f .within []
+
+    -- where the list holds all codes they read back as the lines, and lie within the table
+    module _ (room : 5 + countIn c′ ≤ length c) where
+      front : take (countIn c′) (codesIn c′) ≡ f .cells
+      front =
+          let n = count-is in
+          let z : countIn c ≡ 0 = a .no-codes in
+          let fits : 0 + length (f .cells) ≤ length (codesIn c) = omega (arith, length-drop 5 c, n, room) in
+          let codes : codesIn c′ ≡ put 0 (f .cells) (codesIn c) = f .codes (omega (arith, z, f .few, small)) ∙ ap (λ (k : ℕ). put k (f .cells) (codesIn c)) z in
+          rw (codes, put-fits 0 (f .cells) (codesIn c) fits) (take-at (f .cells) _ (countIn c′) (sym n))
+
+      pub read-back : decode t s (take (countIn c′) (codesIn c′)) ≡ ofLines ls
+      read-back = ap (decode t s) front ∙ cells-read
+
+      pub within-back : allInTable (length t) (take (countIn c′) (codesIn c′)) ≡ true
+      within-back = ap (allInTable (length t)) front ∙ cells-within
 
 pub started-line : {c : List ℕ} → Started c → AtLine c
 started-line a = record { last = a .last; plain = a .plain }

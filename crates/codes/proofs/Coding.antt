@@ -14,7 +14,7 @@ use Rattle.tokens.specs.Token.{Token}
 use Rattle.tokens.specs.Token.{asText}
 use Rattle.tokens.specs.Listing.{textOf}
 use Rattle.tokens.proofs.ListingLaws.{text-append}
-use Rattle.codes.specs.Code.{Event, decode}
+use Rattle.codes.specs.Code.{Event, allInTable, decode}
 use Rattle.codes.specs.Code.Event.{tok}
 use Rattle.codes.specs.Coded.{wrap, counted, lastKind, fresh, joinsLast, marked, tokensIn, countIn, lastIn, isPlain, Coded}
 
@@ -69,6 +69,7 @@ module _ (t s : List ℕ) where
         plain = refl;
         codes = λ l. sym (put-none _ _);
         reads = λ r. refl;
+        within = λ r. refl;
         few = omega arith;
       }
 
@@ -90,5 +91,6 @@ module _ (t s : List ℕ) where
             let B = marked (lastIn c₁) (counted (isPlain c₁) b) in
             ap (decode t s) (append-assoc (f .cells) (g .cells) r) ∙ f .reads (g .cells ++ r) ∙ ap (λ (l : List Event). A ++ l) (g .reads r)
             ∙ sym (append-assoc A B (decode t s r)) ∙ ap (λ (l : List Event). l ++ decode t s r) (marked-more _ _ _ _ a b (f .last) (f .plain));
+        within = λ r. ap (allInTable (length t)) (append-assoc (f .cells) (g .cells) r) ∙ f .within (g .cells ++ r) ∙ g .within r;
         few = omega (arith, f .few, g .few, length-append (f .cells) (g .cells), length-append a b);
       }

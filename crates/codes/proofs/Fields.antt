@@ -1,19 +1,21 @@
 -- The fields of a code are read back, and so are its text and what it stands for.
 -- By division; the text's tests are then of numbers.
 use mathlib.Core.Path.{_≡_, refl}
-use mathlib.Core.Bool.{Bool, true, false, _&&_}
+use mathlib.Core.Bool.{Bool, true, false, not, _&&_, or-true}
 use mathlib.Core.List.{List, [], _∷_, _++_}
-use Prim.Native.Nat.{ℕ, _/_, _%_, _<_, _≤_}
+use Prim.Native.Nat.{ℕ, _+_, _/_, _%_, _<_, _≤_}
 use native.Mathlib.Omega.{arith}
 use lib.Dec.{eqb, leb}
-use borrow.Author.Tests.{lt-leb}
+use native.Mathlib.Decide.{ℕ-discrete}
+use borrow.Author.Tests.{le-leb, lt-leb, ne-eqb}
 use lib.ListN.{take, drop}
 use Rattle.lists.specs.Choice.{pick}
 use Rattle.text.specs.Number.{hexText, numText}
 use Rattle.text.specs.Literal.{literalText}
 use Rattle.tokens.specs.Token.{token}
-use Rattle.codes.specs.Code.{kindIn, joinsIn, whatIn, sizeIn, placeIn, codeOf, hasValue, wordAt, textIn, event, decode}
+use Rattle.codes.specs.Code.{kindIn, joinsIn, whatIn, sizeIn, placeIn, codeOf, hasValue, inTable, allInTable, wordAt, textIn, event, decode}
 use Rattle.codes.specs.Code.Event.{tok}
+use Rattle.codes.proofs.Decoded.{one-in, two-in}
 
 one : (b : Bool) → pick b 0 1 ≤ 1
 one true = omega arith
@@ -62,6 +64,21 @@ module _ (t s : List ℕ) (k : ℕ) (j : Bool) (n at : ℕ) (hk : k < 8) (hn : n
   unfolding textIn
   of-string true = rw (what-is k j 6 n at hk (omega arith) hn, size-is k j 6 n at hk (omega arith) hn, place-is k j 6 n at hk (omega arith) hn)
   of-string false = rw (what-is k j 5 n at hk (omega arith) hn, size-is k j 5 n at hk (omega arith) hn, place-is k j 5 n at hk (omega arith) hn)
+
+-- a token's code lies within a table of m bytes, with any codes behind it
+module _ (m k : ℕ) (j : Bool) (w n at : ℕ) (hk : k < 8) (hw : w < 7) (hn : n < 65536) (h : w ≡ 0 → at + n ≤ m) where
+  lies : inTable m (codeOf k j w n at) ≡ true
+  lies =
+      elim (ℕ-discrete w 0) [
+        | yes e ↦ rw (place-is k j w n at hk (omega arith) hn, size-is k j w n at hk (omega arith) hn, le-leb (at + n) m (h e)) (or-true (not (eqb (whatIn (codeOf k j w n at)) 0)))
+        | no e ↦ rw (what-is k j w n at hk (omega arith) hn, ne-eqb w 0 e)
+      ]
+
+  pub in-one : (leb 2 w && leb w 4) ≡ false → (r : List ℕ) → allInTable m (codeOf k j w n at ∷ r) ≡ allInTable m r
+  in-one q r = one-in m (codeOf k j w n at) r lies (rw (what-is k j w n at hk (omega arith) hn) q)
+
+  pub in-two : (leb 2 w && leb w 4) ≡ true → (v : ℕ) (r : List ℕ) → allInTable m (codeOf k j w n at ∷ (v ∷ r)) ≡ allInTable m r
+  in-two q v r = two-in m (codeOf k j w n at) v r lies (rw (what-is k j w n at hk (omega arith) hn) q)
 
 -- a token's code, whose text is x, with any codes behind it
 module _ (t s : List ℕ) (k : ℕ) (j : Bool) (w n at : ℕ) (hk : k < 8) (hw : w < 7) (hn : n < 65536) (x : List ℕ) where

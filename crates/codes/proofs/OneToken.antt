@@ -10,7 +10,7 @@ use lib.ListN.{length}
 use Rattle.lists.specs.Choice.{pick}
 use Rattle.tokens.specs.Token.{token}
 use Rattle.tokens.specs.Listing.{textOf}
-use Rattle.codes.specs.Code.{codeOf, decode}
+use Rattle.codes.specs.Code.{codeOf, allInTable, decode}
 use Rattle.codes.specs.Code.Event.{tok}
 use Rattle.codes.specs.Coded.{lastIn, isPlain, joinsLast, counted, lastKind, fresh, marked, kindOn, Coded, Added}
 
@@ -45,8 +45,14 @@ module _ (t s c c′ : List ℕ) (k what size place n : ℕ) (values x : List �
       (r : List ℕ) → decode t s ((codeOf (kindOn c k) (joinsLast (lastIn c) (kindOn c k)) what size place ∷ values) ++ r)
       ≡ tok (joinsLast (lastIn c) (kindOn c k)) (token (kindOn c k) x) ∷ decode t s r
 
-  pub coded-added : length values ≤ 1 → Added c c′ k what size place n values → n ≡ length x → Reads → Coded t s c c′ (token k x ∷ [])
-  coded-added h a e q =
+  -- and they lie within the table
+  abbrev pub Lies : Type 0
+  Lies =
+      (r : List ℕ) → allInTable (length t) ((codeOf (kindOn c k) (joinsLast (lastIn c) (kindOn c k)) what size place ∷ values) ++ r)
+      ≡ allInTable (length t) r
+
+  pub coded-added : length values ≤ 1 → Added c c′ k what size place n values → n ≡ length x → Reads → Lies → Coded t s c c′ (token k x ∷ [])
+  coded-added h a e q l =
       record {
         cells = codeOf (kindOn c k) (joinsLast (lastIn c) (kindOn c k)) what size place ∷ values;
         bytes = a .counted-bytes ∙ rw (text-is k x, e);
@@ -54,7 +60,8 @@ module _ (t s c c′ : List ℕ) (k what size place n : ℕ) (values x : List �
         count = a .counted-codes;
         last = a .last ∙ rw (last-is k x (lastIn c) (isPlain c));
         plain = a .plain;
-        codes = λ l. a .codes;
+        codes = λ _. a .codes;
         reads = λ r. q r ∙ rw (marked-is k x (lastIn c) (isPlain c));
+        within = l;
         few = omega (arith, h);
       }

@@ -1,7 +1,7 @@
 -- What token codes mean. A code is a number: bits 0 to 2 the token's kind, bit 3 is 1 where it begins anew and 0 where it goes on with
 -- the token before, bits 4 to 7 what its text is made of, bits 8 to 23 a size, from bit 24 on a place. Some have a value in the number
 -- behind them. t is the lent table, s the record.
-use mathlib.Core.Bool.{Bool, true, false, _&&_}
+use mathlib.Core.Bool.{Bool, true, false, not, _&&_, _||_}
 use mathlib.Core.List.{List, [], _∷_, _++_}
 use Prim.Native.Nat.{ℕ, suc, _+_, _*_, _/_, _%_}
 use lib.Dec.{eqb, leb}
@@ -58,6 +58,16 @@ lineEnd = 7
 -- a number, and a word with a number behind it, have their value in the next code's place
 abbrev pub hasValue : ℕ → Bool
 hasValue c = leb ofNumber (whatIn c) && leb (whatIn c) ofPrefixed
+
+-- whether the text of code c lies within a table of n bytes, if it is of the table
+abbrev pub inTable : ℕ → ℕ → Bool
+inTable n c = not (eqb (whatIn c) ofTable) || leb (placeIn c + sizeIn c) n
+
+-- the same of codes one behind the other, values left out
+unfoldable pub allInTable : ℕ → List ℕ → Bool
+allInTable n [] = true
+allInTable n (c ∷ []) = inTable n c
+allInTable n (c ∷ v ∷ cs) = inTable n c && pick (hasValue c) (allInTable n cs) (allInTable n (v ∷ cs))
 
 -- a word of the table: its kind, its length and its text stand one behind the other
 abbrev pub wordAt : List ℕ → ℕ → List ℕ

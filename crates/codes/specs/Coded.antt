@@ -11,7 +11,7 @@ use Rattle.lists.specs.Put.{put}
 use Rattle.tokens.specs.Token.{Token}
 use Rattle.tokens.specs.Token.{joining, asText}
 use Rattle.tokens.specs.Listing.{textOf}
-use Rattle.codes.specs.Code.{Event, codeOf, lineEnd, decode}
+use Rattle.codes.specs.Code.{Event, codeOf, lineEnd, allInTable, decode}
 use Rattle.codes.specs.Code.Event.{tok}
 
 abbrev pub wrap : ℕ → ℕ
@@ -60,7 +60,8 @@ unfoldable pub marked : ℕ → List Token → List Event
 marked last [] = []
 marked last (t ∷ ts) = tok (joinsLast last (t .kind)) t ∷ marked (t .kind) ts
 
--- The list c became c′: the codes of the tokens ts stand behind those before, as far as the list goes, and are counted.
+-- The list c became c′: the codes of the tokens ts stand behind those before, as far as the list goes, and are counted. Whatever codes come
+-- behind, these read as the tokens, and those whose text is of the table lie within it.
 pub record Coded (t s c c′ : List ℕ) (ts : List Token) : Type 0 where
   pub cells : List ℕ
   pub bytes : bytesIn c′ ≡ wrap (bytesIn c + length (textOf ts))
@@ -70,6 +71,7 @@ pub record Coded (t s c c′ : List ℕ) (ts : List Token) : Type 0 where
   pub plain : isPlain c′ ≡ isPlain c
   pub codes : countIn c + length cells < 18446744073709551616 → codesIn c′ ≡ put (countIn c) cells (codesIn c)
   pub reads : (r : List ℕ) → decode t s (cells ++ r) ≡ marked (lastIn c) (counted (isPlain c) ts) ++ decode t s r
+  pub within : (r : List ℕ) → allInTable (length t) (cells ++ r) ≡ allInTable (length t) r
   pub few : length cells ≤ 2 * length ts
 
 -- the kind that a token of kind k counts as

@@ -7,7 +7,7 @@ use lib.ListN.{length}
 use Rattle.lists.specs.Put.{put}
 use Rattle.tokens.specs.Token.{Token}
 use Rattle.tokens.specs.Listing.{all, bytesOf, pushesOf}
-use Rattle.codes.specs.Code.{Event, decode}
+use Rattle.codes.specs.Code.{Event, allInTable, decode}
 use Rattle.codes.specs.Code.Event.{end}
 use Rattle.codes.specs.Coded.{wrap, bytesIn, tokensIn, countIn, lastIn, isPlain, codesIn, marked}
 
@@ -30,4 +30,5 @@ pub record CodedLines (t s c c′ : List ℕ) (ls : List (List Token)) : Type 0 
   pub next : AtLine c′
   pub codes : countIn c + length cells < 18446744073709551616 → codesIn c′ ≡ put (countIn c) cells (codesIn c)
   pub reads : (r : List ℕ) → decode t s (cells ++ r) ≡ ofLines ls ++ decode t s r
+  pub within : (r : List ℕ) → allInTable (length t) (cells ++ r) ≡ allInTable (length t) r
   pub few : length cells ≤ 2 * pushesOf ls + length ls

@@ -15,10 +15,10 @@ use Rattle.lists.specs.Put.{put}
 use Rattle.tokens.specs.Token.{Token}
 use Rattle.tokens.specs.Listing.{textOf, all, listing, bytesOf, pushesOf}
 use Rattle.tokens.proofs.ListingLaws.{all-bytes, all-count, ends-length, kinds-as-ends, lines-length}
-use Rattle.codes.specs.Code.{decode}
+use Rattle.codes.specs.Code.{allInTable, decode}
 use Rattle.codes.specs.Coded.{bytesIn, tokensIn, countIn, codesIn, Coded, Started, Ended}
 use Rattle.codes.specs.Lines.{ofLines}
-use Rattle.codes.proofs.CodedLines.{line-coded, count-few, read-back, started-line}
+use Rattle.codes.proofs.CodedLines.{line-coded, count-few, read-back, within-back, started-line}
 use Rattle.writer.specs.Written.{page, start, Listed, Ready}
 use Rattle.writer.specs.declared.write.Cursor.{Cursor}
 use Rattle.record.specs.declared.header.Header.{Header}
@@ -71,6 +71,7 @@ piece-coded t s c c₁ c₂ ts a f e same room w =
       few = omega (arith, L .tokens, a .no-tokens, z, w .few);
       room = omega (arith, n, w .few, room, same);
       codes = read-back t s c c₂ ls a L (omega (arith, w .few)) fits;
+      within = within-back t s c c₂ ls a L (omega (arith, w .few)) fits;
     }
 
 -- the lists x, e and k, and what the codes tell of the tokens
@@ -96,6 +97,7 @@ module _ (t s c : List ℕ) (ts : List Token) (x e k : List ℕ) (p : LineCoded 
         record {
           of = ts ∷ [];
           codes = ap (decode t s) q ∙ p .codes;
+          within = ap (allInTable (length t)) q ∙ p .within;
           text = omega (arith, leb-true (bytesIn c) (length x) (v .0), p .bytes);
           ends = omega (arith, leb-true (tokensIn c) (length e) (v .1), p .tokens);
           kinds = omega (arith, leb-true (tokensIn c) (length k) (u .1), p .tokens, kinds);

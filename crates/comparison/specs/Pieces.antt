@@ -1,5 +1,5 @@
 -- What `piece_tokens` answers and leaves in the lent lists.
-use mathlib.Core.Bool.{Bool, _&&_}
+use mathlib.Core.Bool.{Bool, true, _&&_}
 use mathlib.Core.List.{List, [], _∷_}
 use mathlib.Core.Path.{_≡_}
 use Prim.Native.Nat.{ℕ, _+_, _-_, _*_, _≤_}
@@ -9,7 +9,7 @@ use Rattle.lists.specs.Choice.{pick}
 use Rattle.lists.specs.Put.{put}
 use Rattle.tokens.specs.Token.{Token}
 use Rattle.tokens.specs.Listing.{listing}
-use Rattle.codes.specs.Code.{decode}
+use Rattle.codes.specs.Code.{allInTable, decode}
 use Rattle.codes.specs.Coded.{bytesIn, tokensIn, countIn, codesIn}
 use Rattle.codes.specs.Lines.{ofLines}
 use Rattle.record.specs.declared.header.Header.{Header}
@@ -56,7 +56,7 @@ exported s first i what t e k =
     let ts = chosenTokens (headerOf s) s first i what in
     pick (isListed s i && hasRoom ts t e k) (lineAnswer ts t e k) (answer t e k 0)
 
--- a list of codes that holds those of the tokens ts as a line, and tells how much they have
+-- a list of codes that holds those of the tokens ts as a line, within the table, and tells how much they have
 pub record LineCoded (t s c : List ℕ) (ts : List Token) : Type 0 where
   pub bytes : bytesIn c ≡ length (listing (ts ∷ []) .text)
   pub tokens : tokensIn c ≡ length (listing (ts ∷ []) .ends)
@@ -64,3 +64,4 @@ pub record LineCoded (t s c : List ℕ) (ts : List Token) : Type 0 where
   pub few : tokensIn c ≤ 40
   pub room : 5 + countIn c ≤ length c
   pub codes : decode t s (take (countIn c) (codesIn c)) ≡ ofLines (ts ∷ [])
+  pub within : allInTable (length t) (take (countIn c) (codesIn c)) ≡ true

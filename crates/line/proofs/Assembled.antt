@@ -78,6 +78,7 @@ as-text {t} {s} {c} {c₁} {c₂} {c₃} {ts} e p f q =
       plain = q .now-plain ∙ sym e;
       codes = λ h. q .codes ∙ f .codes (omega (arith, p .same-count, h)) ∙ rw (p .same-count, p .codes);
       reads = λ r. f .reads r ∙ rw (p .last, k);
+      within = f .within;
       few = omega (arith, f .few, same-count ts);
     }
 

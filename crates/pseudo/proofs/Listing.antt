@@ -1,6 +1,7 @@
 -- What the codes of a plan's lines tell, and what is written from them: the sizes, the codes read back, one turn, and the lists behind all.
 -- No sum wraps, because the lines are few and short; lines written in turns are the lines left, written from where the cursor stands.
 use mathlib.Core.Path.{_≡_, refl, ap, _∙_}
+use mathlib.Core.Bool.{true}
 use mathlib.Core.List.{List, [], _∷_, map}
 use Prim.Native.Nat.{ℕ, _+_, _*_, _≤_, _<_}
 use native.Mathlib.Omega.{arith}
@@ -10,10 +11,10 @@ use Rattle.lists.specs.Put.{put}
 use Rattle.tokens.specs.Token.{Token}
 use Rattle.tokens.specs.Listing.{all, Listing, listing, bytesOf, pushesOf}
 use Rattle.tokens.proofs.ListingLaws.{ends-length, all-bytes, all-count}
-use Rattle.codes.specs.Code.{decode}
+use Rattle.codes.specs.Code.{allInTable, decode}
 use Rattle.codes.specs.Coded.{bytesIn, tokensIn, countIn, codesIn, Started}
 use Rattle.codes.specs.Lines.{ofLines, CodedLines}
-use Rattle.codes.proofs.CodedLines.{count-few, read-back}
+use Rattle.codes.proofs.CodedLines.{count-few, read-back, within-back}
 use Rattle.writer.specs.Written.{page, start, onPage, Room, Listed, Ready}
 use Rattle.writer.specs.declared.write.Cursor.{Cursor}
 use Rattle.writer.proofs.Listed.{room-listed}
@@ -44,15 +45,21 @@ module _ (t s c c′ : List ℕ) (ls : List (List Token)) (a : Started c) (g : C
       rw (x, n)
 
   pub holds-lines : Fits ls → length c′ ≡ length c → HoldsLines t s c′ ls
-  holds-lines f e = λ room. read-back t s c c′ ls a g (omega (arith, f .tokens, f .lines)) (omega (arith, room, e))
+  holds-lines f e = λ room.
+      let small : 2 * pushesOf ls + length ls < 18446744073709551616 = omega (arith, f .tokens, f .lines) in
+      let fits : 5 + countIn c′ ≤ length c = omega (arith, room, e) in
+      (read-back t s c c′ ls a g small fits, within-back t s c c′ ls a g small fits)
 
   -- a list with room for so many codes as the lines can have
   module _ (m : ℕ) (room : 5 + (2 * pushesOf ls + m) ≤ length c) (e : length c′ ≡ length c) (n : m ≡ length ls) (small : length c < 18446744073709551616) where
     pub part-counted : 5 + countIn c′ ≤ length c′
     part-counted = omega (arith, room, e, n, count-few t s c c′ ls a g (omega (arith, room, n, small)))
 
-    pub part-reads : (p : List ℕ) → p ≡ take (countIn c′) (codesIn c′) → decode t s p ≡ ofLines ls
-    part-reads p q = ap (decode t s) q ∙ read-back t s c c′ ls a g (omega (arith, room, n, small)) (omega (arith, part-counted, e))
+    pub part-holds : (p : List ℕ) → p ≡ take (countIn c′) (codesIn c′) → (decode t s p ≡ ofLines ls) × (allInTable (length t) p ≡ true)
+    part-holds p q =
+        let few : 2 * pushesOf ls + length ls < 18446744073709551616 = omega (arith, room, n, small) in
+        let fits : 5 + countIn c′ ≤ length c = omega (arith, part-counted, e) in
+        (ap (decode t s) q ∙ read-back t s c c′ ls a g few fits, ap (allInTable (length t)) q ∙ within-back t s c c′ ls a g few fits)
 
 -- ---- lines that lists have room for
 module _ (ls : List (List Token)) (f : Fits ls) (x e k l : List ℕ) (h : Holds (listing ls) x e k l) where
@@ -62,11 +69,12 @@ module _ (ls : List (List Token)) (f : Fits ls) (x e k l : List ℕ) (h : Holds 
   small-tokens : length (listing ls .ends) < 4294967296
   small-tokens = omega (arith, f .tokens, all-count ls, tokens-length ls)
 
-  pub ready : (t s c : List ℕ) → decode t s c ≡ ofLines ls → Ready t s c (length x) (length e) (length k) (length l)
-  ready t s c d =
+  pub ready : (t s c : List ℕ) → decode t s c ≡ ofLines ls → allInTable (length t) c ≡ true → Ready t s c (length x) (length e) (length k) (length l)
+  ready t s c d w =
       record {
         of = ls;
         codes = d;
+        within = w;
         text = h .text;
         ends = h .ends;
         kinds = h .kinds;

@@ -1,19 +1,21 @@
 -- What a code is on the page: the room that it needs, and what its writer leaves.
 -- Each is the definition at the event that the code stands for.
 use mathlib.Core.Path.{_≡_, refl, sym, ap, _∙_}
+use mathlib.Core.Bool.{true}
 use mathlib.Core.List.{List, []}
 use Prim.Native.Nat.{ℕ, zero, suc, _+_, _-_, _≤_, _<_}
 use native.Mathlib.Numerals.{add-one}
 use native.Mathlib.Omega.{arith}
 use lib.Dec.{eqb}
 use lib.ListN.{length, set, getD, drop, drop-of-length-le}
-use borrow.Author.Tests.{le-leb, lt-leb}
+use borrow.Author.Tests.{le-leb, lt-leb, leb-true}
 use Rattle.lists.specs.Choice.{pick}
+use Rattle.lists.specs.Every.{both-yes}
 use Rattle.lists.specs.Put.{put}
 use Rattle.tokens.specs.Token.{token}
-use Rattle.codes.specs.Code.{Event, kindIn, joinsIn, whatIn, ofTable, hasValue, textIn, event, decode}
+use Rattle.codes.specs.Code.{Event, kindIn, joinsIn, whatIn, sizeIn, placeIn, ofTable, hasValue, inTable, allInTable, textIn, event, decode}
 use Rattle.codes.specs.Code.Event.{tok, end}
-use Rattle.codes.proofs.Decoded.{event-token, event-end, decode-at}
+use Rattle.codes.proofs.Decoded.{event-token, event-end, decode-at, in-at}
 use Rattle.codes.proofs.Made.{text-table}
 use Rattle.writer.specs.Written.{Page, page, placeFor, behind, written, onPage, Fits, Room}
 use Rattle.writer.specs.declared.write.Cursor.{Cursor}
@@ -90,6 +92,17 @@ word-width c h = rw h
 
 pub end-width : (c : ℕ) → 7 ≤ whatIn c → _≡_ {A = ℕ} 1 (pick (hasValue c) 2 1)
 end-width c h = rw (le-leb 2 (whatIn c) (omega arith), lt-leb (whatIn c) 4 (omega arith))
+
+-- codes from index i on that lie within a table of m bytes
+module _ (m : ℕ) (cs : List ℕ) (i : ℕ) (h : i < length cs) (w : allInTable m (drop i cs) ≡ true) where
+  parted : (n : ℕ) → n ≡ pick (hasValue (getD cs i 0)) 2 1 → (inTable m (getD cs i 0) ≡ true) × (allInTable m (drop (i + n) cs) ≡ true)
+  parted n a = both-yes (inTable m (getD cs i 0)) (allInTable m (drop (i + n) cs)) (sym (in-at m cs i n h a) ∙ w)
+
+  pub word-in : whatIn (getD cs i 0) ≡ ofTable → placeIn (getD cs i 0) + sizeIn (getD cs i 0) ≤ m
+  word-in e = leb-true (placeIn (getD cs i 0) + sizeIn (getD cs i 0)) m (rw e at (parted _ refl .0))
+
+  pub rest-in : (n : ℕ) → n ≡ pick (hasValue (getD cs i 0)) 2 1 → allInTable m (drop (i + n) cs) ≡ true
+  rest-in n a = parted n a .1
 
 pub written-at : (P : Page) (e : Event) → written P e .at ≡ behind (P .at) e
 unfolding written

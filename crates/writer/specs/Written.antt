@@ -1,5 +1,5 @@
 -- What the writer of codes does: each token's bytes, end and kind stand in their places in the lent lists, and each line's token end.
-use mathlib.Core.Bool.{Bool}
+use mathlib.Core.Bool.{Bool, true}
 use mathlib.Core.Path.{_≡_}
 use mathlib.Core.List.{List, [], _∷_}
 use Prim.Native.Nat.{ℕ, suc, _+_, _-_, _≤_, _<_}
@@ -8,7 +8,7 @@ use Rattle.lists.specs.Choice.{pick}
 use Rattle.lists.specs.Put.{put}
 use Rattle.tokens.specs.Token.{Token}
 use Rattle.tokens.specs.Listing.{listing}
-use Rattle.codes.specs.Code.{Event, decode}
+use Rattle.codes.specs.Code.{Event, allInTable, decode}
 use Rattle.codes.specs.Code.Event.{tok, end}
 use Rattle.codes.specs.Lines.{ofLines}
 use Rattle.writer.specs.declared.write.Cursor.{Cursor}
@@ -78,10 +78,11 @@ pub record Listed (ls : List (List Token)) (P P′ : Page) : Type 0 where
   pub count : P′ .at .tokens ≡ length (listing ls .ends)
   pub next : P′ .at .lines ≡ length (listing ls .lines)
 
--- codes of lines, for whose listing lists of x bytes, e and k tokens and l lines have room
+-- codes of lines that lie within the table, for whose listing lists of x bytes, e and k tokens and l lines have room
 pub record Ready (t s c : List ℕ) (x e k l : ℕ) : Type 0 where
   pub of : List (List Token)
   pub codes : decode t s c ≡ ofLines of
+  pub within : allInTable (length t) c ≡ true
   pub text : length (listing of .text) ≤ x
   pub ends : length (listing of .ends) ≤ e
   pub kinds : length (listing of .kinds) ≤ k

@@ -1,6 +1,4 @@
 // Bytes copied into a lent list that has room for them: by eights, and what is left by a four, a two and a one, as the bits of their count say.
-use lists::parts::part;
-use lists::stores::put_bytes;
 ghost use mathlib.Core.Path.{_≡_};
 ghost use Prim.Native.Nat.{_+_, _%_, _≤_, _<_};
 ghost use lib.ListN.{length, take, drop};
@@ -107,7 +105,7 @@ fn copy_last(out: &mut [u8], s: &[u8], at: usize, n: usize, i: usize)
 }
 
 // The n bytes of s from a place on, at the start of the list; answers n.
-fn copy_bytes(out: &mut [u8], s: &[u8], at: usize, n: usize) -> usize
+pub fn copy_bytes(out: &mut [u8], s: &[u8], at: usize, n: usize) -> usize
     requires { ⌜ (at + n ≤ length (now s)) × (n ≤ length (now out)) × (n < 65536) ⌝ }
     ensures count { λ r. ⌜ r ≡ n ⌝ }
     ensures text { λ _. ⌜ now (out .exit) ≡ put 0 (take n (drop at (now (s .entry)))) (now (out .entry)) ⌝ }
@@ -117,17 +115,4 @@ fn copy_bytes(out: &mut [u8], s: &[u8], at: usize, n: usize) -> usize
     let k = copy_twos(out, s, at, n, j);
     copy_last(out, s, at, n, k);
     n
-}
-
-// The part of at most n bytes of s that begins at a place; answers how many they are.
-pub fn copy_part(out: &mut [u8], s: &[u8], at: usize, n: usize) -> usize
-    requires { ⌜ (at < 1099511627776) × (n < 65536) ⌝ }
-    requires { ⌜ length (take n (drop at (now s))) ≤ length (now out) ⌝ }
-    ensures count { λ r. ⌜ r ≡ length (take n (drop at (now (s .entry)))) ⌝ }
-    ensures text { λ _. ⌜ now (out .exit) ≡ put 0 (take n (drop at (now (s .entry)))) (now (out .entry)) ⌝ }
-{
-    if at + n <= s.len() {
-        return copy_bytes(out, s, at, n);
-    }
-    put_bytes(out, part(s, at, n))
 }

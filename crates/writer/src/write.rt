@@ -1,5 +1,5 @@
 // The writer: each token's bytes are stored once, in the rest of the lent text, and its end and kind beside them.
-use crate::copy::copy_part;
+use crate::copy::copy_bytes;
 use codes::read::width;
 use lists::parts::part;
 use lists::reads::u8_at;
@@ -9,13 +9,14 @@ use text::digits::write_num;
 use text::digits::write_prefixed;
 use text::literal::put_literal;
 ghost use mathlib.Core.Path.{_≡_};
+ghost use mathlib.Core.Bool.{true};
 ghost use mathlib.Core.List.{List, []};
 ghost use Prim.Native.Nat.{ℕ, _+_, _≤_, _<_};
 ghost use lib.ListN.{length, set};
 ghost use Rattle.lists.specs.Choice.{pick};
 ghost use Rattle.lists.specs.Put.{put};
 ghost use Rattle.tokens.specs.Token.{Token};
-ghost use Rattle.codes.specs.Code.{kindIn, joinsIn, whatIn, ofTable, textIn, event, decode};
+ghost use Rattle.codes.specs.Code.{kindIn, joinsIn, whatIn, sizeIn, placeIn, ofTable, allInTable, textIn, event, decode};
 ghost use Rattle.codes.specs.Code.Event.{end};
 ghost use Rattle.codes.specs.Lines.{ofLines};
 ghost use Rattle.writer.specs.Written.{page, placeFor, written, onPage, Fits, Room, start, Listed, Ready};
@@ -95,7 +96,7 @@ fn write_token(
     end_token(ends, kinds, p, c, n)
 }
 
-// A token whose text is of the table, as that of nearly all is.
+// A token whose text is of the table and lies within it, as that of nearly all does.
 fn write_word(
     text: &mut [u8],
     ends: &mut [u32],
@@ -105,12 +106,13 @@ fn write_word(
     c: u64,
 ) -> Cursor
     requires { ⌜ whatIn c ≡ ofTable ⌝ }
+    requires { ⌜ placeIn c + sizeIn c ≤ length (now tables) ⌝ }
     requires { ⌜ Fits (length (now text)) (length (now ends)) (length (now kinds)) 0 p (event (now tables) [] c 0) ⌝ }
     ensures { λ r. ⌜ ((l : List ℕ) → page (now (text .exit)) (now (ends .exit)) (now (kinds .exit)) l r
         ≡ written (page (now (text .entry)) (now (ends .entry)) (now (kinds .entry)) l p) (event (now (tables .entry)) [] c 0)) ⌝ }
 {
     let at = p.text;
-    let n = copy_part(
+    let n = copy_bytes(
         &mut text[at..],
         tables,
         (c / 16777216) as usize,
@@ -133,7 +135,7 @@ fn end_line(lines: &mut [u32], p: Cursor) -> Cursor
     }
 }
 
-// All codes of a list, for which there is room.
+// All codes of a list, which lie within the table and for which there is room.
 pub fn write_codes(
     text: &mut [u8],
     ends: &mut [u32],
@@ -145,6 +147,7 @@ pub fn write_codes(
     codes: &[u64],
 ) -> Cursor
     requires { ⌜ Room (length (now text)) (length (now ends)) (length (now kinds)) (length (now lines)) p (decode (now tables) (now rec) (now codes)) ⌝ }
+    requires { ⌜ allInTable (length (now tables)) (now codes) ≡ true ⌝ }
     ensures { λ r. ⌜ page (now (text .exit)) (now (ends .exit)) (now (kinds .exit)) (now (lines .exit)) r
         ≡ onPage (page (now (text .entry)) (now (ends .entry)) (now (kinds .entry)) (now (lines .entry)) p) (decode (now (tables .entry)) (now (rec .entry)) (now (codes .entry))) ⌝ }
 {

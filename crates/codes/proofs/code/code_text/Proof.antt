@@ -30,7 +30,7 @@ returns : tie.Need-returns
 returns c s =
     let b = c .before .before .before .before .before .before .before in
     let a = b .args in
-    text-coded (a .tables .now) s (a .codes .now) _ (a .k) (b .pre .1 .0) (u8At (a .tables .now) (a .at)) (a .at) (omega (arith, c .before .before .before .before .before .shared-slice-known .given (a .at))) refl (b .pre .1 .1 .1) (c .before .before .put-code .ensures)
+    text-coded (a .tables .now) s (a .codes .now) _ (a .k) (b .pre .1 .0) (u8At (a .tables .now) (a .at)) (a .at) (omega (arith, c .before .before .before .before .before .shared-slice-known .given (a .at))) (b .pre .1 .1 .0) refl (b .pre .1 .1 .1) (c .before .before .put-code .ensures)
 
 pub code-text-spec : {M : Type 1} → statement M
 code-text-spec =

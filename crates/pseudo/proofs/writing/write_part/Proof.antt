@@ -5,7 +5,7 @@ use native.Mathlib.Omega.{arith}
 use lib.ListN.{length}
 use Rattle.codes.proofs.CodedLines.{started-line}
 use Rattle.pseudo.proofs.Answers.{codes-length}
-use Rattle.pseudo.proofs.Listing.{part-counted, part-reads}
+use Rattle.pseudo.proofs.Listing.{part-counted, part-holds}
 use Rattle.writer.specs.Written.{onPage}
 use borrow.Author.Needs.{needs}
 use Rattle.pseudo.proofs.writing.write_part.Statement.{statement}
@@ -21,7 +21,10 @@ codes-of-requires : tie.Need-codes-of-requires
 codes-of-requires c κs = let a = (c .before .before .before .before .before .before .before .before .before .before .before .before .before .before .before .before .before .before .before .before .before .before .before .args) in part-counted _ _ _ _ _ ((c .before .before .before .before .before .before .before .before .before .before .before .start) .ensures) ((c .before .before .before .before .before .before .before .code-lines) .ensures) (length (a .plan .now)) (omega (arith, (c .before .before .before .before .before .before .before .before .before .before .before .before .before .before .before .before .before .before .before .before .before .before .before .pre) .1 .1 .1 .0, (c .before .before .before .before .before .before .before .before .before .before .before .start) .kept .0)) ((c .before .before .before .before .before .before .before .code-lines) .kept .0) (codes-length (a .h) (a .rec .now) (a .range) (a .mask) (a .plan .now)) (omega (arith, (c .before .before .before .before .before .before .before .before .before .before .before .start) .kept .0, (c .before .before .before .before .before .before .before .before .before .before .before .before .before .before .before .before .before .before .before .before .before .before .before .good) .1 .1 .1 .1 .1 .0))
 
 write-codes-requires : tie.Need-write-codes-requires
-write-codes-requires c κs = let a = (c .before .before .before .before .before .before .before .before .before .before .before .before .before .before .before .before .before .before .before .before .before .before .before .before .args) in rw (part-reads _ _ _ _ _ ((c .before .before .before .before .before .before .before .before .before .before .before .before .start) .ensures) ((c .before .before .before .before .before .before .before .before .code-lines) .ensures) (length (a .plan .now)) (omega (arith, (c .before .before .before .before .before .before .before .before .before .before .before .before .before .before .before .before .before .before .before .before .before .before .before .before .pre) .1 .1 .1 .0, (c .before .before .before .before .before .before .before .before .before .before .before .before .start) .kept .0)) ((c .before .before .before .before .before .before .before .before .code-lines) .kept .0) (codes-length (a .h) (a .rec .now) (a .range) (a .mask) (a .plan .now)) (omega (arith, (c .before .before .before .before .before .before .before .before .before .before .before .before .start) .kept .0, (c .before .before .before .before .before .before .before .before .before .before .before .before .before .before .before .before .before .before .before .before .before .before .before .before .good) .1 .1 .1 .1 .1 .0)) _ ((c .codes-of) .ensures)) ((c .before .before .before .before .before .before .before .before .before .before .before .before .before .before .before .before .before .before .before .before .before .before .before .before .pre) .1 .1 .1 .1)
+write-codes-requires c κs =
+    let a = (c .before .before .before .before .before .before .before .before .before .before .before .before .before .before .before .before .before .before .before .before .before .before .before .before .args) in
+    let q = part-holds _ _ _ _ _ ((c .before .before .before .before .before .before .before .before .before .before .before .before .start) .ensures) ((c .before .before .before .before .before .before .before .before .code-lines) .ensures) (length (a .plan .now)) (omega (arith, (c .before .before .before .before .before .before .before .before .before .before .before .before .before .before .before .before .before .before .before .before .before .before .before .before .pre) .1 .1 .1 .0, (c .before .before .before .before .before .before .before .before .before .before .before .before .start) .kept .0)) ((c .before .before .before .before .before .before .before .before .code-lines) .kept .0) (codes-length (a .h) (a .rec .now) (a .range) (a .mask) (a .plan .now)) (omega (arith, (c .before .before .before .before .before .before .before .before .before .before .before .before .start) .kept .0, (c .before .before .before .before .before .before .before .before .before .before .before .before .before .before .before .before .before .before .before .before .before .before .before .before .good) .1 .1 .1 .1 .1 .0)) _ ((c .codes-of) .ensures) in
+    (rw (q .0) ((c .before .before .before .before .before .before .before .before .before .before .before .before .before .before .before .before .before .before .before .before .before .before .before .before .pre) .1 .1 .1 .1), q .1)
 
 same-length : tie.Need-same-length
 same-length c = search needs
@@ -39,7 +42,9 @@ same-length-5 : tie.Need-same-length-5
 same-length-5 c = search needs
 
 returns : tie.Need-returns
-returns c = let a = (c .before .before .before .before .before .before .before .before .before .before .before .before .before .before .before .before .before .before .before .before .before .before .before .before .before .before .before .before .before .before .before .before .before .args) in (c .before .before .before .before .before .before .before .before .write-codes) .ensures ∙ ap (onPage _) (part-reads _ _ _ _ _ ((c .before .before .before .before .before .before .before .before .before .before .before .before .before .before .before .before .before .before .before .before .before .start) .ensures) ((c .before .before .before .before .before .before .before .before .before .before .before .before .before .before .before .before .before .code-lines) .ensures) (length (a .plan .now)) (omega (arith, (c .before .before .before .before .before .before .before .before .before .before .before .before .before .before .before .before .before .before .before .before .before .before .before .before .before .before .before .before .before .before .before .before .before .pre) .1 .1 .1 .0, (c .before .before .before .before .before .before .before .before .before .before .before .before .before .before .before .before .before .before .before .before .before .start) .kept .0)) ((c .before .before .before .before .before .before .before .before .before .before .before .before .before .before .before .before .before .code-lines) .kept .0) (codes-length (a .h) (a .rec .now) (a .range) (a .mask) (a .plan .now)) (omega (arith, (c .before .before .before .before .before .before .before .before .before .before .before .before .before .before .before .before .before .before .before .before .before .start) .kept .0, (c .before .before .before .before .before .before .before .before .before .before .before .before .before .before .before .before .before .before .before .before .before .before .before .before .before .before .before .before .before .before .before .before .before .good) .1 .1 .1 .1 .1 .0)) _ ((c .before .before .before .before .before .before .before .before .before .codes-of) .ensures))
+returns c =
+    let a = (c .before .before .before .before .before .before .before .before .before .before .before .before .before .before .before .before .before .before .before .before .before .before .before .before .before .before .before .before .before .before .before .before .before .args) in
+    (c .before .before .before .before .before .before .before .before .write-codes) .ensures ∙ ap (onPage _) (part-holds _ _ _ _ _ ((c .before .before .before .before .before .before .before .before .before .before .before .before .before .before .before .before .before .before .before .before .before .start) .ensures) ((c .before .before .before .before .before .before .before .before .before .before .before .before .before .before .before .before .before .code-lines) .ensures) (length (a .plan .now)) (omega (arith, (c .before .before .before .before .before .before .before .before .before .before .before .before .before .before .before .before .before .before .before .before .before .before .before .before .before .before .before .before .before .before .before .before .before .pre) .1 .1 .1 .0, (c .before .before .before .before .before .before .before .before .before .before .before .before .before .before .before .before .before .before .before .before .before .start) .kept .0)) ((c .before .before .before .before .before .before .before .before .before .before .before .before .before .before .before .before .before .code-lines) .kept .0) (codes-length (a .h) (a .rec .now) (a .range) (a .mask) (a .plan .now)) (omega (arith, (c .before .before .before .before .before .before .before .before .before .before .before .before .before .before .before .before .before .before .before .before .before .start) .kept .0, (c .before .before .before .before .before .before .before .before .before .before .before .before .before .before .before .before .before .before .before .before .before .before .before .before .before .before .before .before .before .before .before .before .before .good) .1 .1 .1 .1 .1 .0)) _ ((c .before .before .before .before .before .before .before .before .before .codes-of) .ensures) .0)
 
 pub write-part-spec : {M : Type 1} → statement M
 write-part-spec =

@@ -2,7 +2,7 @@
 -- The codes read back as the lines where the list holds all of them; where it does not, the turns write them.
 use mathlib.Core.Path.{ap, _∙_}
 use native.Mathlib.Omega.{arith}
-use Rattle.codes.specs.Code.{decode}
+use Rattle.codes.specs.Code.{allInTable, decode}
 use Rattle.pseudo.proofs.Listing.{ready, printed-is}
 use borrow.Author.Needs.{needs}
 use Rattle.pseudo.proofs.writing.write_plan.Statement.{statement}
@@ -18,7 +18,9 @@ codes-of-requires : tie.Need-codes-of-requires
 codes-of-requires c κs = omega (arith, (c .before .before .before .before .if1) .taken, (c .before .before .before .before .before .before .before .before .before .before .before .before .before .before .before .before .pre) .0 .room)
 
 write-listing-requires : tie.Need-write-listing-requires
-write-listing-requires c κs = ready _ ((c .before .before .before .before .before .before .before .before .before .before .before .before .before .before .before .before .before .pre) .1 .1 .1 .0) _ _ _ _ ((c .before .before .before .before .before .before .before .before .before .before .before .before .before .before .before .before .before .pre) .1 .1 .1 .1 .0) _ _ _ (ap (decode _ _) ((c .codes-of) .ensures) ∙ (c .before .before .before .before .before .before .before .before .before .before .before .before .before .before .before .before .before .pre) .1 .1 .1 .1 .1 (omega (arith, (c .before .before .before .before .before .if1) .taken, (c .before .before .before .before .before .before .before .before .before .before .before .before .before .before .before .before .before .pre) .0 .room)))
+write-listing-requires c κs =
+    let q = (c .before .before .before .before .before .before .before .before .before .before .before .before .before .before .before .before .before .pre) .1 .1 .1 .1 .1 (omega (arith, (c .before .before .before .before .before .if1) .taken, (c .before .before .before .before .before .before .before .before .before .before .before .before .before .before .before .before .before .pre) .0 .room)) in
+    ready _ ((c .before .before .before .before .before .before .before .before .before .before .before .before .before .before .before .before .before .pre) .1 .1 .1 .0) _ _ _ _ ((c .before .before .before .before .before .before .before .before .before .before .before .before .before .before .before .before .before .pre) .1 .1 .1 .1 .0) _ _ _ (ap (decode _ _) ((c .codes-of) .ensures) ∙ q .0) (ap (allInTable _) ((c .codes-of) .ensures) ∙ q .1)
 
 write-turns-requires : tie.Need-write-turns-requires
 write-turns-requires c κs = (((c .before .before .before .before .before .before .before .before .before .before .before .before .before .before .before .before .pre) .0 .table, (c .before .before .before .before .before .before .before .before .before .before .before .before .before .before .before .before .pre) .0 .rising), ((c .before .before .before .before .before .before .before .before .before .before .before .before .before .before .before .before .pre) .1 .0, ((c .before .before .before .before .before .before .before .before .before .before .before .before .before .before .before .before .pre) .1 .1 .0, ((c .before .before .before .before .before .before .before .before .before .before .before .before .before .before .before .before .pre) .1 .1 .1 .0, (c .before .before .before .before .before .before .before .before .before .before .before .before .before .before .before .before .pre) .1 .1 .1 .1 .0))))
@@ -36,7 +38,7 @@ same-length-4 : tie.Need-same-length-4
 same-length-4 c = search needs
 
 returns : tie.Need-returns
-returns c = printed-is _ _ _ _ _ _ _ _ _ _ ((c .before .before .before .before .before .before .before .before .write-listing) .ensures _ (ap (decode _ _) ((c .before .before .before .before .before .before .before .before .before .codes-of) .ensures) ∙ (c .before .before .before .before .before .before .before .before .before .before .before .before .before .before .before .before .before .before .before .before .before .before .before .before .before .before .pre) .1 .1 .1 .1 .1 (omega (arith, (c .before .before .before .before .before .before .before .before .before .before .before .before .before .before .if1) .taken, (c .before .before .before .before .before .before .before .before .before .before .before .before .before .before .before .before .before .before .before .before .before .before .before .before .before .before .pre) .0 .room))))
+returns c = printed-is _ _ _ _ _ _ _ _ _ _ ((c .before .before .before .before .before .before .before .before .write-listing) .ensures _ (ap (decode _ _) ((c .before .before .before .before .before .before .before .before .before .codes-of) .ensures) ∙ ((c .before .before .before .before .before .before .before .before .before .before .before .before .before .before .before .before .before .before .before .before .before .before .before .before .before .before .pre) .1 .1 .1 .1 .1 (omega (arith, (c .before .before .before .before .before .before .before .before .before .before .before .before .before .before .if1) .taken, (c .before .before .before .before .before .before .before .before .before .before .before .before .before .before .before .before .before .before .before .before .before .before .before .before .before .before .pre) .0 .room))) .0))
 
 same-length-5 : tie.Need-same-length-5
 same-length-5 c = search needs

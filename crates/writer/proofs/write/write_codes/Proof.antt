@@ -1,14 +1,15 @@
 -- `write::write_codes` meets its contract.
--- The invariant: writing the codes left from here gives the page that writing all gives from the start, and there is room for them.
+-- The invariant: writing the codes left from here gives the page that writing all gives from the start, there is room for them, and they lie within the table.
 use borrow.Author.Needs.{needs}
 use mathlib.Core.Path.{_≡_, refl, _∙_}
+use mathlib.Core.Bool.{true}
 use Prim.Native.Nat.{_+_, _-_}
 use native.Mathlib.Omega.{arith}
 use lib.ListN.{length, drop, getD}
-use Rattle.codes.specs.Code.{hasValue, decode}
+use Rattle.codes.specs.Code.{hasValue, allInTable, decode}
 use Rattle.writer.specs.Written.{page, onPage, Room}
 use Rattle.codes.proofs.Decoded.{width-few}
-use Rattle.writer.proofs.PageLaws.{fits-lines, end-fits, end-written, end-width, word-fits, word-written, word-width, turn, turn-room, room-at, done}
+use Rattle.writer.proofs.PageLaws.{fits-lines, end-fits, end-written, end-width, word-fits, word-written, word-width, word-in, rest-in, turn, turn-room, room-at, done}
 use Rattle.writer.proofs.write.write_codes.Statement.{statement}
 use Rattle.writer.proofs.write.write_codes.Tie as tie
 
@@ -16,13 +17,13 @@ abbrev Inv-loop : tie.InvT-loop
 Inv-loop text₀ ends₀ kinds₀ lines₀ tables rec codes r₀ i₀ text ends kinds lines r i =
     (length text ≡ length text₀) × (length ends ≡ length ends₀) × (length kinds ≡ length kinds₀) × (length lines ≡ length lines₀)
     × (onPage (page text ends kinds lines r) (decode tables rec (drop i codes)) ≡ onPage (page text₀ ends₀ kinds₀ lines₀ r₀) (decode tables rec codes))
-    × Room (length text) (length ends) (length kinds) (length lines) r (decode tables rec (drop i codes))
+    × Room (length text) (length ends) (length kinds) (length lines) r (decode tables rec (drop i codes)) × (allInTable (length tables) (drop i codes) ≡ true)
 
 abbrev μ-loop : tie.MeasureT-loop
 μ-loop text₀ ends₀ kinds₀ lines₀ tables rec codes r₀ i₀ text ends kinds lines r i = length codes - i
 
 loop-holds : tie.Need-loop-holds Inv-loop μ-loop
-loop-holds c = (refl, refl, refl, refl, refl, c .before .before .before .before .before .before .before .pre)
+loop-holds c = let p = c .before .before .before .before .before .before .before .pre in (refl, refl, refl, refl, refl, p .0, p .1)
 
 mul-c : tie.Need-mul-c Inv-loop μ-loop
 mul-c c = search needs
@@ -37,8 +38,11 @@ write-word-requires c κs =
     let g = c .before .before .before .if1 .taken in
     let v = getD (a .codes .now) (l .i + 1) 0 in (
       g,
-      word-fits (a .tables .now) (a .rec .now) (getD (a .codes .now) (l .i) 0) v g (l .text) (l .ends) (l .kinds) (l .r) (length (l .lines))
-          (room-at (a .tables .now) (a .rec .now) (a .codes .now) (l .i) v (c .before .before .before .before .before .loop-test .taken) refl (length (l .text)) (length (l .ends)) (length (l .kinds)) (length (l .lines)) (l .r) (l .inv .5)),
+      (
+        word-in (length (a .tables .now)) (a .codes .now) (l .i) (c .before .before .before .before .before .loop-test .taken) (l .inv .6) g,
+        word-fits (a .tables .now) (a .rec .now) (getD (a .codes .now) (l .i) 0) v g (l .text) (l .ends) (l .kinds) (l .r) (length (l .lines))
+            (room-at (a .tables .now) (a .rec .now) (a .codes .now) (l .i) v (c .before .before .before .before .before .loop-test .taken) refl (length (l .text)) (length (l .ends)) (length (l .kinds)) (length (l .lines)) (l .r) (l .inv .5)),
+      ),
     )
 
 add-i : tie.Need-add-i Inv-loop μ-loop
@@ -63,6 +67,7 @@ loop-again c =
       l .inv .3,
       turn _ _ _ _ _ v h n refl _ _ _ _ _ _ _ _ _ _ q ∙ l .inv .4,
       turn-room _ _ _ _ _ v h n refl _ _ _ _ _ _ _ _ _ _ q (w .kept .0) (w .kept .1 .0) (w .kept .1 .1 .0) refl (l .inv .5),
+      rest-in _ _ _ h (l .inv .6) _ n,
     )
 
 end-line-requires : tie.Need-end-line-requires Inv-loop μ-loop
@@ -95,6 +100,7 @@ loop-again-2 c =
       w .kept .0 ∙ l .inv .3,
       turn _ _ _ _ _ v h n refl _ _ _ _ _ _ _ _ _ _ q ∙ l .inv .4,
       turn-room _ _ _ _ _ v h n refl _ _ _ _ _ _ _ _ _ _ q refl refl refl (w .kept .0) (l .inv .5),
+      rest-in _ _ _ h (l .inv .6) _ n,
     )
 
 add-u64-in : tie.Need-add-u64-in Inv-loop μ-loop
@@ -139,6 +145,7 @@ loop-again-3 c =
       l .inv .3,
       turn _ _ _ _ _ _ h n v _ _ _ _ _ _ _ _ _ _ (w .ensures (l .lines)) ∙ l .inv .4,
       turn-room _ _ _ _ _ _ h n v _ _ _ _ _ _ _ _ _ _ (w .ensures (l .lines)) (w .kept .0) (w .kept .1 .0) (w .kept .1 .1 .0) refl (l .inv .5),
+      rest-in _ _ _ h (l .inv .6) _ n,
     )
 
 same-length : tie.Need-same-length Inv-loop μ-loop
