@@ -59,11 +59,11 @@ unfolding written behind
 line-ended x e k l p = rw add-one
 
 -- the place for a token, by the bit that tells whether it begins: one that goes on has a token before it
-module _ (n l : ℕ) where
-  pub place-room : (b : ℕ) → b < 2 → placeFor (eqb b 0) n < l → n + b ≤ l
-  place-room zero h p = omega (arith, p)
-  place-room (suc zero) h p = omega (arith, p)
-  place-room (suc (suc b)) h p = absurd (omega arith)
+module _ (n : ℕ) where
+  pub place-room : (l b : ℕ) → b < 2 → placeFor (eqb b 0) n < l → n + b ≤ l
+  place-room l zero h p = omega (arith, p)
+  place-room l (suc zero) h p = omega (arith, p)
+  place-room l (suc (suc b)) h p = absurd (omega arith)
 
   pub place-there : (b : ℕ) → b < 2 → pick (eqb b 0) 1 0 ≤ n → 1 ≤ n + b
   place-there zero h p = omega (arith, p)

@@ -16,7 +16,7 @@ add-k c =
     omega (arith, place-room (a .p .tokens) (length (a .ends .now)) (a .c / 8 % 2) (omega arith) (k .pre .1 .0 .0), k .good)
 
 sub-k : tie.Need-sub-k
-sub-k c = let k = c .before in omega (arith, place-there (k .args .p .tokens) 0 (k .args .c / 8 % 2) (omega arith) (k .pre .1 .1))
+sub-k c = let k = c .before in omega (arith, place-there (k .args .p .tokens) (k .args .c / 8 % 2) (omega arith) (k .pre .1 .1))
 
 add-end : tie.Need-add-end
 add-end c = search needs
@@ -31,13 +31,13 @@ mul-ends c =
     omega (arith, place-room (a .p .tokens) (length (a .ends .now)) (a .c / 8 % 2) (omega arith) (k .pre .1 .0 .0), k .good)
 
 slice-write-ends : tie.Need-slice-write-ends
-slice-write-ends c = let k = c .before .before in rw (place-is (k .args .p .tokens) 0 (k .args .c / 8 % 2) (omega arith)) (k .pre .1 .0 .0)
+slice-write-ends c = let k = c .before .before in rw (place-is (k .args .p .tokens) (k .args .c / 8 % 2) (omega arith)) (k .pre .1 .0 .0)
 
 cast-kinds : tie.Need-cast-kinds
 cast-kinds c = search needs
 
 slice-write-kinds : tie.Need-slice-write-kinds
-slice-write-kinds c = let k = c .before .before in rw (place-is (k .args .p .tokens) 0 (k .args .c / 8 % 2) (omega arith)) (k .pre .1 .0 .1)
+slice-write-kinds c = let k = c .before .before in rw (place-is (k .args .p .tokens) (k .args .c / 8 % 2) (omega arith)) (k .pre .1 .0 .1)
 
 add-t10 : tie.Need-add-t10
 add-t10 c =
@@ -52,7 +52,7 @@ same-length-2 : tie.Need-same-length-2
 same-length-2 c = search needs
 
 returns : tie.Need-returns
-returns c = let a = c .before .before .args in rw (place-is (a .p .tokens) 0 (a .c / 8 % 2) (omega arith)) ((refl, refl), refl)
+returns c = let a = c .before .before .args in rw (place-is (a .p .tokens) (a .c / 8 % 2) (omega arith)) ((refl, refl), refl)
 
 pub end-token-spec : {M : Type 1} → statement M
 end-token-spec =
