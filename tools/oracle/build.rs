@@ -1,4 +1,4 @@
-//! Copies the emitter's items out of the Rust source, by name and unchanged, into OUT_DIR, and writes mutants of them if asked to.
+//! Copies the emitter's items out of the Rust source, by name and unchanged, into OUT_DIR; beside them the amended Rust, and mutants if asked to.
 
 mod mutate;
 
@@ -46,6 +46,7 @@ fn main() {
     println!("cargo:rerun-if-changed=build.rs");
     println!("cargo:rerun-if-changed=mutate.rs");
     let items = copy_items();
+    write_edited("amended.rs", mutate::amended, &items, Path::new("amendments.txt"));
     write_mutants(&items);
 }
 
@@ -76,14 +77,18 @@ fn write_mutants(items: &str) {
     println!("cargo:rerun-if-env-changed=MUTANTS");
     println!("cargo:rustc-check-cfg=cfg(mutants)");
     let Some(list) = env::var_os("MUTANTS").map(PathBuf::from) else { return };
-    let emitter = Path::new("src/emitter.rs");
+    write_edited("mutants.rs", mutate::modules, items, &list);
+    println!("cargo:rustc-cfg=mutants");
+}
+
+/// What is made of the emitter, the items and a list of edits.
+fn write_edited(name: &str, make: fn(&str, &str, &str) -> Result<String, String>, items: &str, list: &Path) {
     let read = |file: &Path| {
         println!("cargo:rerun-if-changed={}", file.display());
         fs::read_to_string(file).unwrap_or_else(|e| stop(&format!("cannot read {}: {e}", file.display())))
     };
-    let modules = mutate::modules(&read(emitter), items, &read(&list));
-    write_out("mutants.rs", &modules.unwrap_or_else(|why| stop(&format!("{}: {why}", list.display()))));
-    println!("cargo:rustc-cfg=mutants");
+    let made = make(&read(Path::new("src/emitter.rs")), items, &read(list));
+    write_out(name, &made.unwrap_or_else(|why| stop(&format!("{}: {why}", list.display()))));
 }
 
 fn stop(why: &str) -> ! {

@@ -1,59 +1,67 @@
-//! One-line mutants of the copied items: each becomes a module of its own beside the emitter.
+//! One-line edits of the copied items. Each mutant becomes a module of its own beside the emitter; all amendments together become one.
 //!
-//! The list has for each mutant these lines; empty lines and lines that begin with `#` say nothing:
+//! A list has for each edit these lines; empty lines and lines that begin with `#` say nothing:
 //!
 //!     NAME: FUNCTION          or NAME: FUNCTION N, for the Nth such line of the function
 //!     - the line as the Rust has it, without the blanks around it
 //!     + the line in its place
-//!     = why no record tells the two apart, if none does
+//!     = why: of a mutant, why no record tells the two apart, if none does; of an amendment, the request's words
 
 use std::iter::Peekable;
 
 use crate::item_end;
 
-struct Mutant<'a> {
+struct Edit<'a> {
     name: &'a str,
     function: &'a str,
     /// Which of the function's lines with the old text, from 1; 0 if there must be one alone.
     nth: usize,
     old: &'a str,
     new: &'a str,
-    /// Why the mutant lists as the Rust does; empty if it must not.
-    equivalent: &'a str,
+    why: &'a str,
 }
 
-/// The line of the emitter that the mutated items stand for.
+/// The line of the emitter that the edited items stand for.
 const INCLUDED: &str = "include!(concat!(env!(\"OUT_DIR\"), \"/pseudo.rs\"));";
 
 /// The mutants' modules, and the table of them.
 pub fn modules(emitter: &str, items: &str, list: &str) -> Result<String, String> {
-    let (before, after) = emitter.split_once(INCLUDED).ok_or("the emitter does not include the items")?;
     let mut modules = String::new();
     let mut table = String::from("pub const MUTANTS: &[Mutant] = &[\n");
     for (n, mutant) in read(list)?.iter().enumerate() {
-        let mutated = apply(items, mutant).map_err(|why| format!("mutant {}: {why}", mutant.name))?;
-        modules += &format!("mod m{n} {{\n{before}{mutated}{after}\n}}\n");
+        modules += &module(&format!("m{n}"), emitter, &apply(items, mutant)?)?;
         table += &row(n, mutant);
     }
     Ok(modules + &table + "];\n")
 }
 
-fn row(n: usize, mutant: &Mutant) -> String {
-    let Mutant { name, function, equivalent, .. } = mutant;
-    format!("    Mutant {{ name: {name:?}, function: {function:?}, equivalent: {equivalent:?}, run: run_of!(m{n}) }},\n")
+/// The module of the amended Rust: every edit of the list is applied.
+pub fn amended(emitter: &str, items: &str, list: &str) -> Result<String, String> {
+    let edited = read(list)?.iter().try_fold(items.to_string(), |items, edit| apply(&items, edit))?;
+    module("amended", emitter, &edited)
 }
 
-fn read(list: &str) -> Result<Vec<Mutant<'_>>, String> {
+/// The emitter with the edited items in the place of the copied ones.
+fn module(name: &str, emitter: &str, items: &str) -> Result<String, String> {
+    let (before, after) = emitter.split_once(INCLUDED).ok_or("the emitter does not include the items")?;
+    Ok(format!("mod {name} {{\n{before}{items}{after}\n}}\n"))
+}
+
+fn row(n: usize, mutant: &Edit) -> String {
+    let Edit { name, function, why, .. } = mutant;
+    format!("    Mutant {{ name: {name:?}, function: {function:?}, equivalent: {why:?}, run: run_of!(m{n}) }},\n")
+}
+
+fn read(list: &str) -> Result<Vec<Edit<'_>>, String> {
     let mut lines = list.lines().map(str::trim_end).filter(|l| !l.is_empty() && !l.starts_with('#')).peekable();
-    let mut mutants = Vec::new();
+    let mut edits = Vec::new();
     while let Some(title) = lines.next() {
-        let mutant = mutant(title, &mut lines).ok_or_else(|| format!("expected a mutant at `{title}`"))?;
-        mutants.push(mutant);
+        edits.push(edit(title, &mut lines).ok_or_else(|| format!("expected an edit at `{title}`"))?);
     }
-    Ok(mutants)
+    Ok(edits)
 }
 
-fn mutant<'a>(title: &'a str, lines: &mut Peekable<impl Iterator<Item = &'a str>>) -> Option<Mutant<'a>> {
+fn edit<'a>(title: &'a str, lines: &mut Peekable<impl Iterator<Item = &'a str>>) -> Option<Edit<'a>> {
     let (name, place) = title.split_once(": ")?;
     let (function, nth) = match place.split_once(' ') {
         Some((function, nth)) => (function, nth.parse().ok()?),
@@ -61,21 +69,22 @@ fn mutant<'a>(title: &'a str, lines: &mut Peekable<impl Iterator<Item = &'a str>
     };
     let old = lines.next()?.strip_prefix("- ")?;
     let new = lines.next()?.strip_prefix('+')?.trim_start();
-    let equivalent = lines.next_if(|l| l.starts_with("= ")).map_or("", |l| &l[2..]);
-    Some(Mutant { name, function, nth, old, new, equivalent })
+    let why = lines.next_if(|l| l.starts_with("= ")).map_or("", |l| &l[2..]);
+    Some(Edit { name, function, nth, old, new, why })
 }
 
-/// The items with the mutant's line in place of the old one.
-fn apply(items: &str, mutant: &Mutant) -> Result<String, String> {
-    let (start, end) = function(items, mutant.function).ok_or_else(|| format!("there is no fn {}", mutant.function))?;
-    let found: Vec<usize> = lines(items, start, end).filter(|&at| line(items, at).trim() == mutant.old).collect();
-    let at = match (mutant.nth, &found[..]) {
+/// The items with the edit's line in place of the old one.
+fn apply(items: &str, edit: &Edit) -> Result<String, String> {
+    let Edit { name, function: of, old, .. } = edit;
+    let (start, end) = function(items, of).ok_or_else(|| format!("{name}: there is no fn {of}"))?;
+    let found: Vec<usize> = lines(items, start, end).filter(|&at| line(items, at).trim() == *old).collect();
+    let at = match (edit.nth, &found[..]) {
         (0, [at]) => *at,
-        (1.., _) if mutant.nth <= found.len() => found[mutant.nth - 1],
-        _ => return Err(format!("fn {} has {} such lines: {}", mutant.function, found.len(), mutant.old)),
+        (1.., _) if edit.nth <= found.len() => found[edit.nth - 1],
+        _ => return Err(format!("{name}: fn {of} has {} such lines: {old}", found.len())),
     };
     let rest = &items[at + line(items, at).len()..];
-    Ok(format!("{}{}{rest}", &items[..at], line(items, at).replace(mutant.old, mutant.new)))
+    Ok(format!("{}{}{rest}", &items[..at], line(items, at).replace(old, edit.new)))
 }
 
 /// Where the function that has a body begins, and the place after it.

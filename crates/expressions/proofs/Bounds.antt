@@ -9,6 +9,7 @@ use lib.IntN.{natAbs}
 use lib.ListN.{length, take, length-take}
 use Rattle.lists.specs.Every.{every-at}
 use Rattle.tokens.specs.Token.{Token, punct, keyword}
+use Rattle.x86.specs.Mnemonics.{isBtOrImul}
 use Rattle.x86.specs.Conditions.{conditionNames, conditionName, Relation, none, relations, operatorText, relationAfterCmp, relationAfterTest, relationAfterOther, printsUnsigned}
 use Rattle.x86.specs.Conventions.{microsoft, systemV, argumentRegisters, argumentCount}
 use Rattle.record.specs.declared.header.Header.{Header}
@@ -101,7 +102,8 @@ module _ (h : Header) (s : List ℕ) (ss : AllBytes s) (shift : natAbs (h .shift
   after-writer i cc =
       either (Within 40 1002) (eqb (mnemonicOf (bodyOf h s i)) 38) _ _ (after-cmp i cc)
       (either (Within 40 1002) (eqb (mnemonicOf (bodyOf h s i)) 39) _ _ (against-zero 31 979 cc (relationAfterTest cc) _ (omega arith) (omega arith) (tested-within i))
-      (against-zero 14 487 cc (relationAfterOther cc) _ (omega arith) (omega arith) (operand-within i 0)))
+      (either (Within 40 1002) (isBtOrImul (mnemonicOf (bodyOf h s i))) _ _ (more 40 1002 (flags-within cc) (omega arith) (omega arith))
+      (against-zero 14 487 cc (relationAfterOther cc) _ (omega arith) (omega arith) (operand-within i 0))))
 
   pub condition-within : (first i cc : ℕ) → Within 40 1002 (conditionTokens h s first i cc)
   unfolding conditionTokens

@@ -7,6 +7,7 @@ use Prim.Native.Nat.{ℕ, _-_, _≤_, _<_}
 use borrow.Author.Tests.{lt-ltb, le-ltb, eq-eqb, ne-eqb}
 use Rattle.tokens.specs.Token.{Token, punct}
 use Rattle.tokens.specs.Words.{words, wordToken}
+use Rattle.x86.specs.Mnemonics.{isBtOrImul}
 use Rattle.x86.specs.Conditions.{relationAfterCmp, relationAfterTest, relationAfterOther}
 use Rattle.record.specs.declared.header.Header.{Header}
 use Rattle.record.specs.declared.search.Found.{Found}
@@ -16,6 +17,7 @@ use Rattle.record.specs.Body.{bodyAt, mnemonicOf}
 use Rattle.codes.specs.Coded.{Coded}
 use Rattle.codes.proofs.Coding.{coded-more}
 use Rattle.operand.specs.Expr.{wrapIf}
+use Rattle.operand.specs.Memory.{number}
 use Rattle.operand.specs.Operand.{opTokens}
 use Rattle.operand.specs.Alike.{alike}
 use Rattle.expressions.specs.Condition.{operator, flagsWord, relationOr, unsignedIf, flagWriter, afterCmp, tested, afterTest, afterOther, afterWriter, conditionTokens}
@@ -47,15 +49,8 @@ module _ {t s c : List ℕ} where
   in-parentheses p q r = coded-more t s p (coded-more t s q r)
 
 -- no relation is printed
-module _ (h : Header) (s b : List ℕ) (cc r : ℕ) (t : 6 ≤ r) where
-  pub none-cmp : r ≡ relationAfterCmp cc → flagsWord cc ∷ [] ≡ afterCmp h s b cc
-  none-cmp e = rw (← e, le-ltb r 6 t)
-
-  pub none-test : r ≡ relationAfterTest cc → flagsWord cc ∷ [] ≡ afterTest h s b cc
-  none-test e = rw (← e, le-ltb r 6 t)
-
-  pub none-other : r ≡ relationAfterOther cc → flagsWord cc ∷ [] ≡ afterOther h s b cc
-  none-other e = rw (← e, le-ltb r 6 t)
+pub no-relation : (cc r R : ℕ) (ts : List Token) → r ≡ R → 6 ≤ r → flagsWord cc ∷ [] ≡ relationOr cc R ts
+no-relation cc r R ts e t = rw (← e, le-ltb r 6 t)
 
 module _ (h : Header) (s b : List ℕ) where
   -- what TEST compares with 0
@@ -65,6 +60,15 @@ module _ (h : Header) (s b : List ℕ) where
 
     pub tested-both : a ≡ false → wrapIf true (opTokens h s b 0 ++ (punct " & " ∷ opTokens h s b 1)) ≡ tested h s b
     tested-both t = rw (← e, t)
+
+  -- after the other writers: not BT or IMUL, or one of them
+  module _ (cc m : ℕ) (e : m ≡ mnemonicOf b) where
+    pub other-than : isBtOrImul m ≡ false
+        → relationOr cc (relationAfterOther cc) (opTokens h s b 0 ++ (operator (relationAfterOther cc) ∷ number false 0 ∷ [])) ≡ afterOther h s b cc
+    other-than t = rw (← e, t)
+
+    pub bt-or-imul : isBtOrImul m ≡ true → flagsWord cc ∷ [] ≡ afterOther h s b cc
+    bt-or-imul t = rw (← e, t)
 
   -- which writer it was
   module _ (cc m : ℕ) (e : m ≡ mnemonicOf b) where

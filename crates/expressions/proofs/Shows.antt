@@ -1,7 +1,7 @@
--- The tokens of a condition after CMP and TEST say what Intel's flags say; those of the negated one say the opposite.
+-- The tokens of a condition after CMP and TEST say what Intel's flags say, those of the negated one the opposite; after BT and IMUL they claim nothing.
 -- By the flag rule at each width, of the relation that the tokens' operator is; `negate` keeps to the conditions that print a relation.
 use Prim.Native.Nat.{ℕ, _-_, _≤_}
-use mathlib.Core.Path.{_≡_, refl, ap, _∙_}
+use mathlib.Core.Path.{_≡_, refl, sym, ap, _∙_}
 use mathlib.Core.Bool.{Bool, true, false, _||_}
 use mathlib.Core.List.{List, [], _∷_}
 use Prim.Native.String.{String}
@@ -14,6 +14,7 @@ use Rattle.lists.specs.Choice.{pick}
 use Rattle.tokens.specs.Listing.{textOf}
 use Rattle.x86.specs.Words.{wordsOf, isOneOf, isWordOf}
 use Rattle.x86.specs.Mnemonics as mnemonic
+use Rattle.x86.specs.Mnemonics.{isBtOrImul}
 use Rattle.x86.specs.Conditions.{conditionNames, conditionName, among, negate, isRelation, relationAfterCmp, relationAfterTest, related, printsUnsigned}
 use Rattle.x86.specs.Flags.{Flags, signed, test, conditionHolds}
 use Rattle.x86.proofs.Rule.{flag-rule, rule}
@@ -26,7 +27,7 @@ use Rattle.record.specs.Body.{mnemonicOf}
 use Rattle.operand.specs.Operand.{opTokens}
 use Rattle.operand.specs.Alike.{alike}
 use Rattle.operand.proofs.Texts.{same-text}
-use Rattle.expressions.specs.Condition.{flagWriter, bodyOf, afterCmp, afterTest, afterWriter, conditionAfter, conditionTokens}
+use Rattle.expressions.specs.Condition.{flagsWord, flagWriter, bodyOf, afterCmp, afterTest, afterWriter, conditionAfter, conditionTokens}
 use Rattle.expressions.specs.Shown.{Reading, turnedIf, valueOf, AfterCmp, AfterTest, Shows}
 
 -- one of the four widths has a bit
@@ -79,6 +80,14 @@ by-opposite : (names : String) → isWordOf [] (wordsOf names) ≡ false → (k 
 unfolding negate conditionName conditionNames
 by-opposite names e k a = record { unsigned = among-negated "b ae be a" tt k; holds = named-turns names e k a }
 
+other-number : (m n : ℕ) → isBtOrImul m ≡ true → (n ≡ mnemonic.bt → ⊥) → (n ≡ mnemonic.imul → ⊥) → m ≡ n → ⊥
+other-number m n t a b e = by (eqb m mnemonic.bt) (eqb m mnemonic.imul) refl refl t
+  where
+    by : (x y : Bool) → eqb m mnemonic.bt ≡ x → eqb m mnemonic.imul ≡ y → (x || y) ≡ true → ⊥
+    by true y p q t = a (sym e ∙ eqb-true m mnemonic.bt p)
+    by false true p q t = b (sym e ∙ eqb-true m mnemonic.imul q)
+    by false false p q t = absurd (let z : _≡_ {A = ℕ} 0 1 = cc in omega arith)
+
 module _ (h : Header) (s : List ℕ) where
   module _ (first i p k : ℕ) (f : flagWriter (bodiesOf h s) first (i - first) ≡ At p) where
     condition-is : conditionTokens h s first i k ≡ afterWriter h s (bodyOf h s p) k
@@ -95,10 +104,19 @@ module _ (h : Header) (s : List ℕ) where
         let n : (mnemonicOf (bodyOf h s p) ≡ mnemonic.cmp) → ⊥ = λ z. omega (arith, m, z) in
         condition-is ∙ rw (ne-eqb (mnemonicOf (bodyOf h s p)) mnemonic.cmp n, eq-eqb (mnemonicOf (bodyOf h s p)) mnemonic.test m)
 
+    -- neither CMP nor TEST is BT or IMUL
+    bt-imul-is : isBtOrImul (mnemonicOf (bodyOf h s p)) ≡ true → conditionTokens h s first i k ≡ flagsWord k ∷ []
+    unfolding afterWriter
+    bt-imul-is m = condition-is ∙ rw (not-both 38 (omega arith) (omega arith), not-both 39 (omega arith) (omega arith), m)
+      where
+        not-both : (n : ℕ) → (n ≡ mnemonic.bt → ⊥) → (n ≡ mnemonic.imul → ⊥) → eqb (mnemonicOf (bodyOf h s p)) n ≡ false
+        not-both n a b = ne-eqb (mnemonicOf (bodyOf h s p)) n (other-number (mnemonicOf (bodyOf h s p)) n m a b)
+
   pub shows : (first i k : ℕ) → Shows h s first i k false (conditionTokens h s first i k)
   shows first i k = record {
     after-cmp = λ p f m a. rw (cmp-is first i p k f m) (shown-cmp h s (bodyOf h s p) k k false (as-it-is k) (rule .printed .after-cmp k ∙ a));
     after-test = λ p f m a. rw (test-is first i p k f m) (shown-test h s (bodyOf h s p) k k false (as-it-is k) (rule .printed .after-test k ∙ a));
+    after-bt-imul = λ p f m. bt-imul-is first i p k f m;
   }
 
   pub shows-turned : (first i k : ℕ) → Shows h s first i k true (conditionTokens h s first i (negate k))
@@ -112,4 +130,5 @@ module _ (h : Header) (s : List ℕ) where
         rw (test-is first i p (negate k) f m)
         (shown-test h s (bodyOf h s p) k (negate k) true (by-opposite "e ne s ns l ge le g" refl k a)
         (rule .printed .after-test (negate k) ∙ among-negated "e ne s ns l ge le g" tt k ∙ a));
+    after-bt-imul = λ p f m. bt-imul-is first i p (negate k) f m;
   }

@@ -6,7 +6,7 @@ use lib.Dec.{eqb, ltb}
 use Rattle.lists.specs.Ascii.{ascii}
 use Rattle.lists.specs.Choice.{pick}
 use Rattle.tokens.specs.Token.{Token, token, punct, keyword}
-use Rattle.x86.specs.Mnemonics.{cmp, test, writesFlags}
+use Rattle.x86.specs.Mnemonics.{cmp, test, writesFlags, isBtOrImul}
 use Rattle.x86.specs.Conditions.{conditionName, operatorText, relationAfterCmp, relationAfterTest, relationAfterOther, printsUnsigned}
 use Rattle.record.specs.declared.header.Header.{Header}
 use Rattle.record.specs.Layout.{bodiesOf}
@@ -57,9 +57,12 @@ module _ (h : Header) (s : List ℕ) where
   abbrev pub afterTest : List ℕ → ℕ → List Token
   afterTest b cc = relationOr cc (relationAfterTest cc) (tested b ++ (operator (relationAfterTest cc) ∷ number false 0 ∷ []))
 
-  -- "After the other writers e ne s ns print the first operand against 0."
+  -- "After the other writers e ne s ns print the first operand against 0." After BT and IMUL "the conditions e, ne, s and ns now print the
+  -- `__flags_` word with the condition's name", as the others do
   abbrev pub afterOther : List ℕ → ℕ → List Token
-  afterOther b cc = relationOr cc (relationAfterOther cc) (opTokens h s b 0 ++ (operator (relationAfterOther cc) ∷ number false 0 ∷ []))
+  afterOther b cc =
+      pick (isBtOrImul (mnemonicOf b)) (flagsWord cc ∷ [])
+      (relationOr cc (relationAfterOther cc) (opTokens h s b 0 ++ (operator (relationAfterOther cc) ∷ number false 0 ∷ [])))
 
   -- after the flag writer with this body
   unfoldable pub afterWriter : List ℕ → ℕ → List Token

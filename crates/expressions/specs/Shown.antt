@@ -1,5 +1,5 @@
--- What the tokens that show a condition say where CMP or TEST is the nearest flag writer: a relation of the operands that holds exactly
--- when the condition holds of Intel's flags; where the condition is shown turned over, exactly when it does not.
+-- What the tokens that show a condition say. Where CMP or TEST is the nearest flag writer: a relation of the operands that holds exactly
+-- when the condition holds of Intel's flags; where the condition is shown turned over, exactly when it does not. Where BT or IMUL is: none.
 use Prim.Native.Nat.{ℕ, _-_, _^_, _<_}
 use mathlib.Core.Path.{_≡_}
 use mathlib.Core.Bool.{Bool, true, false, not}
@@ -11,7 +11,8 @@ use Rattle.tokens.specs.Token.{Token}
 use Rattle.tokens.specs.Listing.{textOf}
 use Rattle.x86.specs.Words.{isOneOf}
 use Rattle.x86.specs.Mnemonics as mnemonic
-use Rattle.x86.specs.Conditions.{related, among}
+use Rattle.x86.specs.Mnemonics.{isBtOrImul}
+use Rattle.x86.specs.Conditions.{related, among, negate}
 use Rattle.x86.specs.Flags.{signed, cmp, test, conditionHolds}
 use Rattle.x86.specs.FlagRule.{readFor}
 use Rattle.record.specs.declared.header.Header.{Header}
@@ -21,7 +22,7 @@ use Rattle.record.specs.Body.{mnemonicOf}
 use Rattle.operand.specs.Memory.{number}
 use Rattle.operand.specs.Operand.{opTokens}
 use Rattle.operand.specs.Alike.{alike}
-use Rattle.expressions.specs.Condition.{operator, unsignedIf, flagWriter, bodyOf, tested}
+use Rattle.expressions.specs.Condition.{operator, flagsWord, unsignedIf, flagWriter, bodyOf, tested}
 
 -- a reading of operands as numbers of w bits, by their texts: "operands that print alike are equal"
 pub record Reading (w : ℕ) : Type 0 where
@@ -65,3 +66,7 @@ module _ (h : Header) (s : List ℕ) where
         → among k "e ne b ae be a l ge le g" ≡ true → AfterCmp (bodyOf h s p) k turned ts
     pub after-test : (p : ℕ) → flagWriter (bodiesOf h s) first (i - first) ≡ At p → mnemonicOf (bodyOf h s p) ≡ mnemonic.test
         → among k "e ne s ns l ge le g" ≡ true → AfterTest (bodyOf h s p) k turned ts
+    -- "After either of them, the conditions e, ne, s and ns now print the `__flags_` word with the condition's name": no relation is claimed
+    -- after BT and IMUL, of any condition
+    pub after-bt-imul : (p : ℕ) → flagWriter (bodiesOf h s) first (i - first) ≡ At p → isBtOrImul (mnemonicOf (bodyOf h s p)) ≡ true
+        → ts ≡ flagsWord (pick turned (negate k) k) ∷ []

@@ -105,10 +105,15 @@ fn after_cmp(codes: &mut [u64], tables: &[u8], rec: &[u8], h: Header, body: &[u8
     code_flags(codes, tables, cc)
 }
 
+// After the other writers; BT and IMUL leave no flags that tell of the first operand.
 fn after_other(codes: &mut [u64], tables: &[u8], rec: &[u8], h: Header, body: &[u8], cc: u8)
     requires { ⌜ Lent (now codes) (now tables) h (now rec) ⌝ }
     ensures { λ _. ⌜ Coded (now (tables .entry)) (now (rec .entry)) (now (codes .entry)) (now (codes .exit)) (afterOther h (now (rec .entry)) (now (body .entry)) cc) ⌝ }
 {
+    let m = mnemonic(body);
+    if (m == 40) | (m == 20) {
+        return code_flags(codes, tables, cc);
+    }
     let r = relation_after_other(isa_of(tables), cc);
     if r < 6 {
         op(codes, tables, rec, h, body, 0);

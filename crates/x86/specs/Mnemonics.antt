@@ -1,8 +1,9 @@
 -- Mnemonics by number, and which of them write flags.
 use Prim.Native.Nat.{ℕ}
 use mathlib.Core.Path.{_≡_, refl}
-use mathlib.Core.Bool.{Bool}
+use mathlib.Core.Bool.{Bool, _||_}
 use mathlib.Core.List.{List, [], _∷_, map}
+use lib.Dec.{eqb}
 use lib.ListN.{getD, length}
 use Rattle.x86.specs.Words.{wordsOf, isWordOf}
 
@@ -173,3 +174,8 @@ flagWriters = wordsOf "cmp test add sub and or xor inc dec neg shl shr sar bt im
 
 unfoldable pub writesFlags : ℕ → Bool
 writesFlags m = isWordOf (mnemonicName m) flagWriters
+
+-- "BT leaves the zero flag unchanged and the sign undefined; IMUL leaves the zero flag undefined, and on its sign flag editions differ": after
+-- these two flag writers e ne s ns say nothing of the first operand
+abbrev pub isBtOrImul : ℕ → Bool
+isBtOrImul m = eqb m bt || eqb m imul

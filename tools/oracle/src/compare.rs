@@ -189,14 +189,15 @@ pub fn pieces(seed: u64, count: usize) -> Result<bool, String> {
     let mut rng = Rng::new(seed);
     let mut tally = Tally::new("pieces");
     let mut forms = BTreeSet::new();
-    let mut instructions = 0;
+    let (mut instructions, mut departing) = (0, 0);
     while instructions < count {
         let call = damage::valid_call(&mut rng);
         let record = Record::parse(&call.bytes);
         instructions += record.insns().count();
-        for Piece { first, at, what, tokens } in pieces::all(&record) {
+        for Piece { first, at, what, tokens, amended } in pieces::all(&record) {
             let theirs = (port.piece_tokens)(&call.bytes, first, at, what);
             tally.compared += 1;
+            departing += usize::from(amended);
             forms.insert(tokens.form());
             if tokens != theirs {
                 tally.differs(&call, || format!("instruction {at}, piece {what}: the Rust {tokens}, the port {theirs}"))?;
@@ -204,6 +205,7 @@ pub fn pieces(seed: u64, count: usize) -> Result<bool, String> {
         }
     }
     println!("  {instructions} instructions, {} distinct forms", forms.len());
+    print_amended("pieces", departing, tally.compared);
     Ok(tally.end())
 }
 
@@ -214,11 +216,13 @@ pub fn lines(seed: u64, count: usize) -> Result<bool, String> {
     let mut rng = Rng::new(seed);
     let mut tally = Tally::new("lines");
     let mut forms = Forms::default();
+    let mut seen = Seen::default();
     while forms.instructions() < count {
         let record = gen::one_block(&mut rng);
         let call = Call { bytes: record.to_bytes(), from: 0, to: 1 };
         let ours = listing::list_insns(&record).map_err(|e| format!("the Rust panics: {e}"))?;
         forms.add(&record, &ours);
+        seen.add(&ours);
         tally.compared += 1;
         let (x, k, l) = (ours.text.len(), ours.token_ends.len(), ours.lines());
         if let Err(why) = accepted(&call, &port, Lists::lent(x, [k, k], [l, l, l]), &ours) {
@@ -226,6 +230,7 @@ pub fn lines(seed: u64, count: usize) -> Result<bool, String> {
         }
     }
     forms.print()?;
+    print_amended("lines", seen.amended, seen.lines);
     Ok(tally.end())
 }
 
@@ -244,6 +249,11 @@ pub fn whole(seed: u64, count: usize) -> Result<bool, String> {
     }
     seen.print();
     Ok(tally.end())
+}
+
+/// How many were compared with the amended Rust, and how many with the unchanged one.
+fn print_amended(what: &str, amended: usize, all: usize) {
+    println!("  {what}: {amended} against the amended Rust, {} against the unchanged one", all - amended);
 }
 
 /// Call `n` of the listing comparison: valid, and now and then damaged.
@@ -360,6 +370,7 @@ fn is_sane(call: &Call, seen: &mut Seen) -> Result<(), String> {
 #[derive(Default)]
 struct Seen {
     lines: usize,
+    amended: usize,
     longest: usize,
     most_lines: usize,
     most_tokens: usize,
@@ -373,6 +384,7 @@ impl Seen {
     fn add(&mut self, listing: &listing::Listing) {
         use listing::Origin::*;
         self.lines += listing.lines();
+        self.amended += listing.amended;
         self.most_lines = self.most_lines.max(listing.lines());
         self.longest = self.longest.max(listing.text.len());
         self.most_tokens = self.most_tokens.max(listing.token_ends.len());
@@ -388,6 +400,7 @@ impl Seen {
     }
 
     fn print(&self) {
+        print_amended("lines", self.amended, self.lines);
         println!("  lines {}, labels {}, do-loops {}, if-regions {}", self.lines, self.labels, self.dos, self.ifs);
         println!(
             "  at most: {} lines, {} tokens, {} text bytes in a listing, indent {}",

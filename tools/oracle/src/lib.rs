@@ -1,9 +1,10 @@
-//! What the port is compared with: the unchanged Rust emitter over a record, and the questions of
-//! document 01 written a second time.
+//! What the port is compared with: the unchanged Rust emitter over a record, the amended one where document 02 departs from it, and the
+//! questions of document 01 written a second time.
 
 pub mod compare;
 pub mod damage;
 pub mod demand3;
+pub mod departures;
 pub mod gen;
 pub mod lines;
 pub mod listing;
@@ -26,6 +27,8 @@ mod exports;
 mod iced;
 mod model;
 mod protos;
+
+include!(concat!(env!("OUT_DIR"), "/amended.rs"));
 
 #[cfg(test)]
 mod tests;

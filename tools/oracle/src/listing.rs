@@ -3,6 +3,8 @@
 use std::cell::Cell;
 use std::panic::{catch_unwind, AssertUnwindSafe};
 
+use crate::amended;
+use crate::departures;
 use crate::emitter::{self, PseudoLine};
 use crate::model::TokenKind;
 use crate::questions;
@@ -24,6 +26,8 @@ pub struct Listing {
     pub line_ends: Vec<u32>,
     /// What each line was written for; not a list of document 01.
     pub origins: Vec<Origin>,
+    /// How many lines a request of document 02 leaves to the amended Rust.
+    pub amended: usize,
 }
 
 /// What a line was written for: a block by its place, an instruction by its number.
@@ -37,7 +41,8 @@ pub enum Origin {
     Instruction(usize),
 }
 
-/// The Rust's listing of an accepted record's range, or the message of its panic.
+/// What the port lists of an accepted record's range: the Rust's lines, where a request of document 02 departs the amended one's; or the
+/// message of a panic.
 pub fn list(bytes: &[u8], from: usize, to: usize) -> Result<Listing, String> {
     list_record(&Record::parse(bytes), from, to)
 }
@@ -63,12 +68,31 @@ pub fn refusal(number: u8) -> Vec<u8> {
 }
 
 pub fn list_record(record: &Record, from: usize, to: usize) -> Result<Listing, String> {
+    lines_of(record, || with_amended(record, emitter::run(record, from, to), plain(amended::run(record, from, to))))
+}
+
+/// The unchanged Rust's listing, which its mutants are compared with.
+pub fn unchanged(record: &Record, from: usize, to: usize) -> Result<Listing, String> {
     lines_of(record, || emitter::run(record, from, to))
 }
 
 /// The first block's instructions, without structure.
 pub fn list_insns(record: &Record) -> Result<Listing, String> {
-    lines_of(record, || emitter::insns(record))
+    lines_of(record, || with_amended(record, emitter::insns(record), plain(amended::insns(record))))
+}
+
+/// The amended Rust's lines as the emitter's.
+fn plain((lines, tag): (Vec<amended::PseudoLine>, u64)) -> (Vec<PseudoLine>, u64) {
+    (lines.into_iter().map(|l| PseudoLine { address: l.address, indent: l.indent, tokens: l.tokens }).collect(), tag)
+}
+
+/// The Rust's lines, with the amended one's in the place of those that depart.
+fn with_amended(record: &Record, (rust, tag): (Vec<PseudoLine>, u64), amended: (Vec<PseudoLine>, u64)) -> (Vec<PseudoLine>, u64) {
+    let departs = departures::lines(record);
+    let taken = |l: &PseudoLine| l.address.is_some_and(|a| a >> 48 == tag >> 48 && departs[(a - tag) as usize]);
+    assert_eq!(rust.len(), amended.0.len(), "an amendment changes the number of lines");
+    let lines = rust.into_iter().zip(amended.0).map(|(rust, amended)| if taken(&rust) { amended } else { rust });
+    (lines.collect(), tag)
 }
 
 /// The lists of the lines that the emitter, or a mutant of it, writes.
@@ -106,6 +130,7 @@ fn message(e: Box<dyn std::any::Any + Send>) -> String {
 
 fn lists(record: &Record, lines: &[PseudoLine], tag: u64) -> Listing {
     let addresses: Vec<u64> = record.insns().map(|i| i.address).collect();
+    let departs = departures::lines(record);
     let mut out = Listing::default();
     for line in lines {
         for token in &line.tokens {
@@ -119,6 +144,9 @@ fn lists(record: &Record, lines: &[PseudoLine], tag: u64) -> Listing {
             Origin::Open(n) | Origin::While(n) | Origin::Instruction(n) => addresses[n],
             Origin::Close => 0,
         });
+        if let Origin::Open(n) | Origin::While(n) | Origin::Instruction(n) = origin {
+            out.amended += usize::from(departs[n]);
+        }
         out.line_marks.push(line.indent as u16 + if line.address.is_some() { 256 } else { 0 });
         out.line_ends.push(out.token_ends.len() as u32);
         out.origins.push(origin);

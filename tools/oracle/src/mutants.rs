@@ -79,7 +79,7 @@ impl Mutant {
 
 /// Tries the mutants that are left on range `n`.
 fn notice(record: &Record, from: usize, to: usize, n: usize, noticed: &mut [Option<usize>]) -> Result<(), String> {
-    let ours = listing::list_record(record, from, to).map_err(|e| format!("the Rust panics: {e}"))?;
+    let ours = listing::unchanged(record, from, to).map_err(|e| format!("the Rust panics: {e}"))?;
     for (mutant, at) in MUTANTS.iter().zip(noticed).filter(|(_, at)| at.is_none()) {
         let same = listing::lines_of(record, || (mutant.run)(record, from, to)).is_ok_and(|l| ours.difference(&l).is_none());
         *at = (!same).then_some(n);

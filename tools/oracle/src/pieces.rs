@@ -1,5 +1,7 @@
-//! Parts of lines, made by the Rust: operands, addresses and conditions.
+//! Parts of lines, made by the Rust, or the amended one where a request departs: operands, addresses and conditions.
 
+use crate::amended;
+use crate::departures;
 use crate::emitter;
 use crate::model::Token;
 use crate::record::Record;
@@ -53,6 +55,8 @@ pub struct Piece {
     pub at: u16,
     pub what: u8,
     pub tokens: Tokens,
+    /// Whether a request of document 02 leaves it to the amended Rust.
+    pub amended: bool,
 }
 
 /// The port's numbers: operands from 0 on, the memory operand read and as an address, condition c as 16 + c.
@@ -65,22 +69,24 @@ const CONDITIONS: u8 = 16;
 pub fn all(record: &Record) -> Vec<Piece> {
     let mut out = Vec::new();
     let firsts = firsts(record);
-    let mut add = |what: u8, tokens: Vec<Tokens>| {
+    let mut add = |what: u8, tokens: Vec<Tokens>, departs: &[bool]| {
         out.extend(tokens.into_iter().zip(&firsts).enumerate().map(|(at, (tokens, &first))| Piece {
             first,
             at: at as u16,
             what,
             tokens,
+            amended: departs[at],
         }));
     };
+    let none = vec![false; firsts.len()];
     let slots = operands(record);
     for k in 0..5 {
-        add(k as u8, slots.iter().map(|s| s[k].clone()).collect());
+        add(k as u8, slots.iter().map(|s| s[k].clone()).collect(), &none);
     }
-    add(READ, memory(record, true));
-    add(ADDRESS, memory(record, false));
+    add(READ, memory(record, true), &none);
+    add(ADDRESS, memory(record, false), &none);
     for c in 1..=16 {
-        add(CONDITIONS + c, conditions(record, c));
+        add(CONDITIONS + c, conditions(record, c), &departing(record, c));
     }
     out
 }
@@ -105,7 +111,16 @@ pub fn memory(record: &Record, read: bool) -> Vec<Tokens> {
     emitter::memory(record, read).iter().map(|t| Tokens::new(t)).collect()
 }
 
+/// For each instruction whether a condition that it tests departs.
+fn departing(record: &Record, condition: u8) -> Vec<bool> {
+    let blocks = record.blocks.iter().map(|b| &b.insns);
+    blocks.flat_map(|i| (0..i.len()).map(|n| departures::condition(&i[..n], condition))).collect()
+}
+
 /// What a condition (1 to 16) prints when each instruction tests it.
 pub fn conditions(record: &Record, condition: u8) -> Vec<Tokens> {
-    emitter::conditions(record, condition).iter().map(|t| Tokens::new(t)).collect()
+    let both = emitter::conditions(record, condition).into_iter().zip(amended::conditions(record, condition));
+    both.zip(departing(record, condition))
+        .map(|((rust, amended), departs)| Tokens::new(if departs { &amended } else { &rust }))
+        .collect()
 }

@@ -17,8 +17,12 @@ pub mod mnemonic {
     pub const OR: u8 = 8;
     pub const ADD: u8 = 9;
     pub const SUB: u8 = 10;
+    pub const SHL: u8 = 11;
+    pub const SHR: u8 = 12;
+    pub const SAR: u8 = 13;
     pub const INC: u8 = 16;
     pub const DEC: u8 = 17;
+    pub const NEG: u8 = 18;
     pub const IMUL: u8 = 20;
     pub const PUSH: u8 = 21;
     pub const POP: u8 = 22;

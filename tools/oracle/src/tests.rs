@@ -219,6 +219,27 @@ fn pieces_of_the_example() {
     );
 }
 
+/// The amended Rust prints otherwise exactly where a request is said to depart.
+#[test]
+fn amended_where_a_request_departs() {
+    let mut rng = crate::rng::Rng::new(3);
+    let mut departing = 0;
+    let text = |tokens: &[crate::model::Token]| tokens.iter().map(|t| t.t.as_str()).collect::<String>();
+    for _ in 0..500 {
+        let record = Record::parse(&crate::damage::valid_call(&mut rng).bytes);
+        for c in 1..=16 {
+            let (rust, amended) = (crate::emitter::conditions(&record, c), crate::amended::conditions(&record, c));
+            let blocks = record.blocks.iter().map(|b| &b.insns);
+            let departs = blocks.flat_map(|i| (0..i.len()).map(|n| crate::departures::condition(&i[..n], c)));
+            for ((rust, amended), departs) in rust.iter().zip(&amended).zip(departs) {
+                assert_eq!(text(rust) != text(amended), departs);
+                departing += usize::from(departs);
+            }
+        }
+    }
+    assert!(departing > 1000);
+}
+
 #[test]
 fn generated_records_are_sane() {
     assert_eq!(crate::compare::sanity(11, 2000), Ok(true));

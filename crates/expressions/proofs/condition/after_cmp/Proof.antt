@@ -4,7 +4,7 @@ use Rattle.codes.proofs.Coding.{coded-more}
 use Rattle.codes.proofs.EachToken.{as-token}
 use Rattle.operand.proofs.Tokens.{as-tokens}
 use Rattle.expressions.proofs.Relations.{operator-word}
-use Rattle.expressions.proofs.Conditions.{related, none-cmp}
+use Rattle.expressions.proofs.Conditions.{related, no-relation}
 use borrow.Author.Needs.{needs}
 use Rattle.expressions.proofs.condition.after_cmp.Statement.{statement}
 use Rattle.expressions.proofs.condition.after_cmp.Tie as tie
@@ -44,7 +44,7 @@ same-length-2 c = search needs
 returns-2 : tie.Need-returns-2
 returns-2 c =
     let a = c .before .before .before .before .before .before .before .before .before .before .before .args in
-    as-tokens (none-cmp (a .h) (a .rec .now) (a .body .now) (a .cc) _ (c .before .before .before .before .if1 .left) (c .before .before .before .before .before .relation-after-cmp .ensures)) (c .before .before .code-flags .ensures (a .rec .now))
+    as-tokens (no-relation (a .cc) _ _ _ (c .before .before .before .before .before .relation-after-cmp .ensures) (c .before .before .before .before .if1 .left)) (c .before .before .code-flags .ensures (a .rec .now))
 
 pub after-cmp-spec : {M : Type 1} → statement M
 after-cmp-spec =

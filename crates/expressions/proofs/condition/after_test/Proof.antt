@@ -1,7 +1,7 @@
 -- `condition::after_test` meets its contract.
 -- By whether the table has a relation for the condition.
 use Rattle.operand.proofs.Tokens.{as-tokens}
-use Rattle.expressions.proofs.Conditions.{related, none-test}
+use Rattle.expressions.proofs.Conditions.{related, no-relation}
 use borrow.Author.Needs.{needs}
 use Rattle.expressions.proofs.condition.after_test.Statement.{statement}
 use Rattle.expressions.proofs.condition.after_test.Tie as tie
@@ -35,7 +35,7 @@ same-length-2 c = search needs
 returns-2 : tie.Need-returns-2
 returns-2 c =
     let a = c .before .before .before .before .before .before .before .before .before .before .before .args in
-    as-tokens (none-test (a .h) (a .rec .now) (a .body .now) (a .cc) _ (c .before .before .before .before .if1 .left) (c .before .before .before .before .before .relation-after-test .ensures)) (c .before .before .code-flags .ensures (a .rec .now))
+    as-tokens (no-relation (a .cc) _ _ _ (c .before .before .before .before .before .relation-after-test .ensures) (c .before .before .before .before .if1 .left)) (c .before .before .code-flags .ensures (a .rec .now))
 
 pub after-test-spec : {M : Type 1} → statement M
 after-test-spec =
