@@ -95,22 +95,25 @@ module _ (frame : ℕ) (bodies b : List ℕ) (i m : ℕ) (p : b ≡ bodyAt bodie
   abbrev part : ℕ
   part = pick (isUnskipped frame bodies 23 i) 1 (pick (isUnskipped frame bodies 21 i) 2 0)
 
-  part-is : (k : Bool) → k ≡ isSkipped frame b → partBy (eqb m 23) (eqb m 21) k ≡ part
+  part-is : (k : Bool) → k ≡ isSkipped frame (bodyAt bodies i) → partBy (eqb m 23) (eqb m 21) k ≡ part
   unfolding isUnskipped
   part-is k r = rw (r, q, p)
 
   pub part-other : (eqb m 23 || eqb m 21) ≡ false → 0 ≡ part
-  part-other f = other (eqb m 23) (eqb m 21) (isSkipped frame b) f ∙ part-is (isSkipped frame b) refl
+  part-other f = other (eqb m 23) (eqb m 21) (isSkipped frame (bodyAt bodies i)) f ∙ part-is (isSkipped frame (bodyAt bodies i)) refl
 
-  module _ (k : Bool) (r : k ≡ isSkipped frame b) where
+  module _ (b′ : List ℕ) (k : Bool) (e : b′ ≡ bodyAt bodies i) (r : k ≡ isSkipped frame b′) where
+    kept-is : partBy (eqb m 23) (eqb m 21) k ≡ part
+    kept-is = part-is k (r ∙ ap (isSkipped frame) e)
+
     pub part-call : m ≡ 23 → not k ≡ true → 1 ≡ part
-    part-call e f = call-kept (eqb m 23) (eqb m 21) k (eq-eqb m 23 e) f ∙ part-is k r
+    part-call f g = call-kept (eqb m 23) (eqb m 21) k (eq-eqb m 23 f) g ∙ kept-is
 
     pub part-push : (m ≡ 23 → ⊥) → (eqb m 23 || eqb m 21) ≡ true → not k ≡ true → 2 ≡ part
-    part-push e f g = push-kept (eqb m 23) (eqb m 21) k (ne-eqb m 23 e) f g ∙ part-is k r
+    part-push f g l = push-kept (eqb m 23) (eqb m 21) k (ne-eqb m 23 f) g l ∙ kept-is
 
     pub part-skipped : not k ≡ false → 0 ≡ part
-    part-skipped f = skipped (eqb m 23) (eqb m 21) k f ∙ part-is k r
+    part-skipped f = skipped (eqb m 23) (eqb m 21) k f ∙ kept-is
 
 -- the pushes before instruction k
 module _ (frame : ℕ) (bodies : List ℕ) (first k : ℕ) where

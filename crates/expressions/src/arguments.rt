@@ -49,14 +49,15 @@ pub fn written_after(isa: &[u8], mask: u16, body: &[u8]) -> u16
     mask
 }
 
-// What instruction i is to the pushes of a call behind it: 1 a call that ends them, 2 one of them, 0 neither.
-fn push_part(isa: &[u8], bodies: &[u8], frame: u16, i: u16) -> u8
-    requires { ⌜ now isa ≡ isaBytes ⌝ }
+// What instruction i is to the pushes of a call behind it: 1 a call that ends them, 2 one of them, 0 neither, as most are.
+fn push_part(tables: &[u8], bodies: &[u8], frame: u16, i: u16) -> u8
+    requires { ⌜ now tables ≡ tableBytes ⌝ }
     ensures { λ r. ⌜ r ≡ pick (isUnskipped frame (now (bodies .entry)) call i) 1 (pick (isUnskipped frame (now (bodies .entry)) push i) 2 0) ⌝ }
 {
-    let body = body_at(bodies, i);
-    let m = mnemonic(body);
+    let m = mnemonic(body_at(bodies, i));
     if (m == 23) | (m == 21) {
+        let isa = isa_of(tables);
+        let body = body_at(bodies, i);
         if !is_skipped(isa, frame, body) {
             return if m == 23 { 1 } else { 2 };
         }
@@ -133,14 +134,13 @@ fn pushed_arguments(codes: &mut [u64], tables: &[u8], rec: &[u8], h: Header, fir
     requires { ⌜ Lent (now codes) (now tables) h (now rec) ⌝ }
     ensures { λ _. ⌜ Coded (now (tables .entry)) (now (rec .entry)) (now (codes .entry)) (now (codes .exit)) (pushed h (now (rec .entry)) false (pushesBack (h .frame) (bodiesOf h (now (rec .entry))) first (i - first))) ⌝ }
 {
-    let isa = isa_of(tables);
     let bodies = from(rec, bodies_at(h));
     let frame = h.frame;
     let mut comma = false;
     let mut k = i;
     while first < k {
         let j = k - 1;
-        let part = push_part(isa, bodies, frame, j);
+        let part = push_part(tables, bodies, frame, j);
         if part == 1 {
             return;
         }

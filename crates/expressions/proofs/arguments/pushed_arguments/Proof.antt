@@ -17,15 +17,12 @@ use Rattle.expressions.proofs.arguments.pushed_arguments.Statement.{sta
 use Rattle.expressions.proofs.arguments.pushed_arguments.Tie as tie
 
 abbrev Inv-loop : tie.InvT-loop
-Inv-loop codes₀ tables rec h first i isa bodies frame comma₀ k₀ codes comma k =
+Inv-loop codes₀ tables rec h first i bodies frame comma₀ k₀ codes comma k =
     (length codes ≡ length codes₀)
     × Sofar tables rec codes₀ codes (pushed h rec false (pushesBack frame bodies first (i - first))) (pushed h rec comma (pushesBack frame bodies first (k - first)))
 
 abbrev μ-loop : tie.MeasureT-loop
-μ-loop codes₀ tables rec h first i isa bodies frame comma₀ k₀ codes comma k = k
-
-isa-of-requires : tie.Need-isa-of-requires Inv-loop μ-loop
-isa-of-requires c κs = search needs
+μ-loop codes₀ tables rec h first i bodies frame comma₀ k₀ codes comma k = k
 
 bodies-at-requires : tie.Need-bodies-at-requires Inv-loop μ-loop
 bodies-at-requires c κs = search needs
@@ -34,7 +31,7 @@ from-requires : tie.Need-from-requires Inv-loop μ-loop
 from-requires c κs = search needs
 
 loop-holds : tie.Need-loop-holds Inv-loop μ-loop
-loop-holds c = (refl, at-start (coded-none _ _ _ (c .before .before .before .before .before .slice-known .given)))
+loop-holds c = (refl, at-start (coded-none _ _ _ (c .before .before .before .before .slice-known .given)))
 
 sub-j : tie.Need-sub-j Inv-loop μ-loop
 sub-j c = search needs
@@ -47,7 +44,7 @@ same-length c = search needs
 
 returns : tie.Need-returns Inv-loop μ-loop
 returns c =
-    let a = c .before .before .before .before .before .before .before .before .before .before .args in
+    let a = c .before .before .before .before .before .before .before .before .before .args in
     as-tokens (all-pushed (a .h) (a .rec .now) _ (a .first) (a .i) (bodies-are (a .h) (a .rec .now) (c .before .before .before .before .from .ensures .0) (c .before .before .before .before .before .bodies-at .ensures .0))) (at-end (c .before .before .before .loop .inv .1) (back-stop _ _ _ (c .before .before .before .loop .k) (a .h) (a .rec .now) (c .before .before .before .loop .comma) _ (c .before .before .loop-test .taken) (c .before .push-part .ensures) (c .if1 .taken)))
 
 body-at-requires : tie.Need-body-at-requires Inv-loop μ-loop
@@ -61,7 +58,7 @@ loop-less c = search needs
 
 loop-again : tie.Need-loop-again Inv-loop μ-loop
 loop-again c =
-    let a = c .before .before .before .before .before .before .before .before .before .before .before .before .before .before .before .args in (
+    let a = c .before .before .before .before .before .before .before .before .before .before .before .before .before .before .args in (
       omega (arith, (c .before .before .code-pushed .kept .0), (c .before .before .before .before .before .before .before .before .loop .inv .0)),
       further (c .before .before .before .before .before .before .before .before .loop .inv .1) (back-turn (a .h) (a .rec .now) _ _ (bodies-are (a .h) (a .rec .now) (c .before .before .before .before .before .before .before .before .before .from .ensures .0) (c .before .before .before .before .before .before .before .before .before .before .bodies-at .ensures .0)) _ (c .before .before .before .before .before .before .before .before .loop .k) (c .before .before .before .before .before .before .before .loop-test .taken) (c .before .before .before .before .before .before .before .before .loop .comma) _ (c .before .before .before .before .before .before .push-part .ensures) (c .before .before .before .before .before .if1 .left) _ (c .before .before .before .before .body-at .ensures)) (c .before .before .code-pushed .ensures),
     )
@@ -71,7 +68,7 @@ same-length-2 c = search needs
 
 returns-2 : tie.Need-returns-2 Inv-loop μ-loop
 returns-2 c =
-    let a = c .before .before .before .before .before .before .before .before .args in
+    let a = c .before .before .before .before .before .before .before .args in
     as-tokens (all-pushed (a .h) (a .rec .now) _ (a .first) (a .i) (bodies-are (a .h) (a .rec .now) (c .before .before .from .ensures .0) (c .before .before .before .bodies-at .ensures .0))) (at-end (c .before .loop .inv .1) (back-none _ _ _ (c .before .loop .k) (a .h) (a .rec .now) (c .before .loop .comma) (c .loop-test .left)))
 
 pub pushed-arguments-spec : {M : Type 1} → statement M
@@ -80,7 +77,6 @@ pushed-arguments-spec =
     (tie.spec
     Inv-loop
     μ-loop
-    isa-of-requires
     bodies-at-requires
     from-requires
     loop-holds
