@@ -41,17 +41,21 @@ module _ (h : Header) (s pairs texts t : List ℕ) (k kind start n : ℕ)
 abbrev pub holds : List ℕ → ℕ → ℕ → Bool
 holds spans va k = leb (spanFirst spans k) va && leb va (spanLast spans k)
 
-module _ (h : Header) (s spans : List ℕ) (p : spans ≡ spansOf h s) (va k f l : ℕ) (a : f ≡ spanFirst spans k) (b : l ≡ spanLast spans k) where
+-- span k as it was read
+module _ (spans : List ℕ) (va k f l : ℕ) (a : f ≡ spanFirst spans k) (b : l ≡ spanLast spans k) where
   asked : (leb f va && leb va l) ≡ holds spans va k
   asked = simp (a, b)
 
-  pub inside : k < h .spans → (leb f va && leb va l) ≡ true → true ≡ inSpan h s va
-  unfolding inSpan
-  inside n e = sym (rw (← p) (any-found (holds spans va) (h .spans) k n (sym asked ∙ e)))
+  pub inside : (n : ℕ) → k < n → (leb f va && leb va l) ≡ true → true ≡ anyBelow (holds spans va) n
+  inside n h e = sym (any-found (holds spans va) n k h (sym asked ∙ e))
 
   pub outside : anyBelow (holds spans va) k ≡ false → (leb f va && leb va l) ≡ false → anyBelow (holds spans va) (k + 1) ≡ false
   outside q e = any-goes-on (holds spans va) k q (sym asked ∙ e)
 
-pub nowhere : (h : Header) (s spans : List ℕ) (va k : ℕ) → spans ≡ spansOf h s → k ≡ h .spans → anyBelow (holds spans va) k ≡ false → false ≡ inSpan h s va
+-- all spans are the record's
+pub of-record : (h : Header) (s spans : List ℕ) (va : ℕ) → spans ≡ spansOf h s → anyBelow (holds spans va) (h .spans) ≡ inSpan h s va
 unfolding inSpan
-nowhere h s spans va k p q e = sym (rw (← p, ← q) e)
+of-record h s spans va p = rw p
+
+pub nowhere : (h : Header) (s spans : List ℕ) (va k : ℕ) → spans ≡ spansOf h s → k ≡ h .spans → anyBelow (holds spans va) k ≡ false → false ≡ inSpan h s va
+nowhere h s spans va k p q e = sym e ∙ ap (anyBelow (holds spans va)) q ∙ of-record h s spans va p

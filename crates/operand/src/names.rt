@@ -3,6 +3,7 @@ use codes::code::code_literal;
 use codes::code::code_part;
 use codes::code::code_prefixed;
 use lists::reads::from;
+use lists::reads::plain_u64;
 use record::atlas::entry_kind;
 use record::atlas::entry_length;
 use record::atlas::span_first;
@@ -15,14 +16,17 @@ use record::layout::spans_at;
 use record::layout::texts_at;
 use record::search::Found;
 use record::search::search;
+ghost use mathlib.Core.Bool.{_&&_};
 ghost use mathlib.Core.List.{[], _∷_};
 ghost use mathlib.Core.Path.{_≡_};
 ghost use Rattle.operand.specs.Names.{entryAt, entryToken, nameOr, inSpan};
 ghost use Rattle.operand.specs.Lent.{Rising};
-ghost use Prim.Native.Nat.{_≤_, _<_, _+_};
+ghost use Prim.Native.Nat.{_≤_, _<_, _+_, _*_};
 ghost use lib.ListN.{length};
+ghost use lib.Dec.{leb};
+ghost use Rattle.lists.specs.Choice.{anyBelow};
 ghost use Rattle.record.specs.Layout.{textsAt, pairsOf};
-ghost use Rattle.record.specs.Atlas.{textStart};
+ghost use Rattle.record.specs.Atlas.{textStart, spanFirst, spanLast};
 ghost use Rattle.tokens.specs.Words.{wordToken};
 ghost use Rattle.codes.specs.Coded.{Coded};
 ghost use Rattle.operand.specs.Lent.{Lent};
@@ -35,12 +39,31 @@ pub fn entry_at(rec: &[u8], h: Header, va: u64) -> Found
     search(from(rec, entries_at(h)), h.atlas, va)
 }
 
+// Whether an address lies in one of n spans that are there: no test of the length stands between the reads.
+fn plain_span(spans: &[u8], n: u16, va: u64) -> bool
+    requires { ⌜ 16 * n ≤ length (now spans) ⌝ }
+    ensures { λ r. ⌜ r ≡ anyBelow (λ k. leb (spanFirst (now (spans .entry)) k) va && leb va (spanLast (now (spans .entry)) k)) n ⌝ }
+{
+    let e = n as usize;
+    let mut k: usize = 0;
+    while k < e {
+        if (plain_u64(spans, 16 * k) <= va) & (va <= plain_u64(spans, 16 * k + 8)) {
+            return true;
+        }
+        k += 1;
+    }
+    false
+}
+
 // Whether an address lies in a span.
 pub fn in_span(rec: &[u8], h: Header, va: u64) -> bool
     ensures { λ r. ⌜ r ≡ inSpan h (now (rec .entry)) va ⌝ }
 {
     let spans = from(rec, spans_at(h));
     let n = h.spans;
+    if 16 * n as usize <= spans.len() {
+        return plain_span(spans, n, va);
+    }
     let mut k: u16 = 0;
     while k < n {
         if (span_first(spans, k) <= va) & (va <= span_last(spans, k)) {
