@@ -1,15 +1,19 @@
 -- An immediate below 4096 prints as it is, unsigned.
 -- It is no address, and each signed reading of it is itself.
-use mathlib.Core.Path.{_≡_, refl, ap, _∙_}
+use mathlib.Core.Path.{_≡_, refl, sym, ap, _∙_}
 use mathlib.Core.Bool.{Bool, true, false, _&&_, _||_}
 use mathlib.Core.List.{List, [], _∷_}
-use Prim.Native.Nat.{ℕ, _%_, _≤_, _<_}
+use Prim.Native.Nat.{ℕ, _-_, _^_, _≤_, _<_}
+use native.Mathlib.Nat.{mod-eq-of-lt}
 use native.Mathlib.Omega.{arith}
-use borrow.Author.Tests.{leb-true, ltb-true, lt-leb, lt-ltb}
+use borrow.Author.Tests.{leb-true, ltb-true, lt-leb}
 use lib.Dec.{eqb, leb, ltb}
 use lib.IntN.{pos}
 use Rattle.lists.specs.Choice.{pick}
 use Rattle.lists.specs.Every.{both-yes}
+use Rattle.lists.specs.Signed.{signedAt}
+use Rattle.lists.specs.SignedLaws.{halves}
+use Rattle.lists.proofs.Turned.{below-half}
 use Rattle.tokens.specs.Token.{Token}
 use Rattle.record.specs.declared.header.Header.{Header}
 use Rattle.record.specs.Body.{operandKind, operandNumber}
@@ -17,15 +21,17 @@ use Rattle.operand.specs.Memory.{number}
 use Rattle.operand.specs.Operand.{signedRead, inWindow, immediateNumber, immediate, opTokens}
 use Rattle.operand.proofs.Choices.{op-immediate-is}
 
+small-signed : (w v : ℕ) → 1 ≤ w → v < 2 ^ (w - 1) → signedAt w v ≡ pos v
+small-signed w v o l = sym (below-half v (2 ^ (w - 1)) w v refl (sym (mod-eq-of-lt (omega (arith, halves w o, l)))) l)
+
 small-read : (kind v : ℕ) → v < 4096 → inWindow (signedRead kind v) ≡ false
 unfolding signedRead
 small-read kind v l =
-    let m : v % 4294967296 ≡ v = omega (arith, l) in
-    rw (m, lt-ltb v 0x8000_0000_0000_0000 (omega (arith, l)), lt-ltb v 0x8000_0000 (omega (arith, l))) (go (eqb kind 6 || eqb kind 9 || eqb kind 10) (eqb kind 5 || eqb kind 8))
+    go (eqb kind 6 || eqb kind 9 || eqb kind 10) (eqb kind 5 || eqb kind 8)
   where
-    go : (a b : Bool) → inWindow (pick a (pos v) (pick b (pos v) (pos 0))) ≡ false
-    go true b = refl
-    go false true = refl
+    go : (a b : Bool) → inWindow (pick a (signedAt 64 v) (pick b (signedAt 32 v) (pos 0))) ≡ false
+    go true b = ap inWindow (small-signed 64 v (omega arith) (omega (arith, l)))
+    go false true = ap inWindow (small-signed 32 v (omega arith) (omega (arith, l)))
     go false false = refl
 
 module _ (h : Header) (s b : List ℕ) (i k v : ℕ) (p : k ≡ operandKind b i) (q : v ≡ operandNumber b i) where

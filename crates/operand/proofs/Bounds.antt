@@ -13,7 +13,8 @@ use lib.Seq.{getD-drop}
 use Rattle.lists.specs.Choice.{pick}
 use Rattle.lists.specs.Every.{every, every-at}
 use Rattle.lists.specs.Bytes.{u16At, u32At, u64At}
-use Rattle.lists.specs.Signed.{i32Of, i64Of}
+use Rattle.lists.specs.Signed.{signedAt}
+use Rattle.lists.specs.SignedLaws.{signed-abs}
 use Rattle.text.specs.NumberLaws.{num-64}
 use Rattle.text.specs.LiteralBounds.{literal-short}
 use Rattle.tokens.specs.Token.{Token, punct, symbol}
@@ -64,21 +65,7 @@ register-short r =
     let class = every-at (every (upTo 5)) [] tt registerNames (r / 16) tt in
     pick-le length 5 (eqb r 0) _ _ (omega arith) (leb→le _ _ (every-at (upTo 5) [] tt names (r % 16) class))
 
--- signed readings and sums of them
-pub i64-abs : (v : ℕ) → v < 2 ^ 64 → natAbs (i64Of v) ≤ 2 ^ 63
-i64-abs v h =
-    elim (decLt v 0x8000_0000_0000_0000) [
-      | yes a ↦ rw (lt-ltb v 0x8000_0000_0000_0000 a) (omega arith)
-      | no a ↦ rw (le-ltb v 0x8000_0000_0000_0000 (omega arith)) (omega arith)
-    ]
-
-pub i32-abs : (v : ℕ) → v < 2 ^ 32 → natAbs (i32Of v) ≤ 2 ^ 31
-i32-abs v h =
-    elim (decLt v 0x8000_0000) [
-      | yes a ↦ rw (lt-ltb v 0x8000_0000 a) (omega arith)
-      | no a ↦ rw (le-ltb v 0x8000_0000 (omega arith)) (omega arith)
-    ]
-
+-- sums of signed numbers
 difference-abs : (a b : ℕ) → natAbs (subℕ a b) ≤ a + b
 difference-abs a b =
     elim (decLt a b) [
@@ -151,8 +138,8 @@ module _ (h : Header) (b : List ℕ) (bs : AllBytes b) where
   displacement-abs : natAbs (displacement h b) ≤ 2 ^ 63
   unfolding displacement
   displacement-abs =
-      pick-le natAbs (2 ^ 63) (eqb (h .bits) 64) _ _ (i64-abs (memoryAddress b) (u64-small b bs 10))
-      (omega (arith, i32-abs (memoryAddress b % 4294967296) (omega arith)))
+      pick-le natAbs (2 ^ 63) (eqb (h .bits) 64) _ _ (signed-abs 64 (memoryAddress b) (omega arith))
+      (omega (arith, signed-abs 32 (memoryAddress b) (omega arith)))
 
   address-within : Within 11 61 (addressExpr h b .tokens)
   unfolding addressExpr
@@ -167,8 +154,8 @@ module _ (h : Header) (b : List ℕ) (bs : AllBytes b) where
   slot-abs : natAbs (h .shift) ≤ 2 ^ 31 → natAbs (slotNumber h b) ≤ 2 ^ 63 + 2 ^ 31
   unfolding slotNumber
   slot-abs p =
-      let m = i64-abs (memoryAddress b) (u64-small b bs 10) in
-      pick-le natAbs (2 ^ 63 + 2 ^ 31) (isShifted h b) _ _ (omega (arith, sum-abs (i64Of (memoryAddress b)) (h .shift), m)) (omega (arith, m))
+      let m = signed-abs 64 (memoryAddress b) (omega arith) in
+      pick-le natAbs (2 ^ 63 + 2 ^ 31) (isShifted h b) _ _ (omega (arith, sum-abs (signedAt 64 (memoryAddress b)) (h .shift), m)) (omega (arith, m))
 
   slot-within : natAbs (h .shift) ≤ 2 ^ 31 → Within 1 46 (slotToken h b ∷ [])
   unfolding slotToken
@@ -194,11 +181,11 @@ module _ (h : Header) (s : List ℕ) (ss : AllBytes s) where
       go (At k) = entry-within k
       go Nothing = more 1 486 (one (prefixed w va) 46 (prefixed-short w va l p)) (omega arith) (omega arith)
 
-signed-abs : (kind v : ℕ) → v < 2 ^ 64 → natAbs (signedRead kind v) ≤ 18446744073709551615
+read-abs : (kind v : ℕ) → natAbs (signedRead kind v) ≤ 18446744073709551615
 unfolding signedRead
-signed-abs kind v p =
-    pick-le natAbs 18446744073709551615 (eqb kind 6 || eqb kind 9 || eqb kind 10) (i64Of v) _ (omega (arith, i64-abs v p))
-    (pick-le natAbs 18446744073709551615 (eqb kind 5 || eqb kind 8) (i32Of (v % 4294967296)) (pos 0) (omega (arith, i32-abs (v % 4294967296) (omega arith))) (omega arith))
+read-abs kind v =
+    pick-le natAbs 18446744073709551615 (eqb kind 6 || eqb kind 9 || eqb kind 10) (signedAt 64 v) _ (omega (arith, signed-abs 64 v (omega arith)))
+    (pick-le natAbs 18446744073709551615 (eqb kind 5 || eqb kind 8) (signedAt 32 v) (pos 0) (omega (arith, signed-abs 32 v (omega arith))) (omega arith))
 
 module _ (h : Header) (s b : List ℕ) (ss : AllBytes s) (bs : AllBytes b) where
   immediate-within : (kind v : ℕ) → v < 2 ^ 64 → Within 1 486 (immediate h s kind v ∷ [])
@@ -206,7 +193,7 @@ module _ (h : Header) (s b : List ℕ) (ss : AllBytes s) (bs : AllBytes b) where
   immediate-within kind v p =
       either (λ (t : Token). Within 1 486 (t ∷ [])) (leb 0x1000 v && inSpan h s v) _ _ (name-within h s ss v (symbol "off_") (omega arith) p)
       (either (λ (t : Token). Within 1 486 (t ∷ [])) (inWindow (signedRead kind v)) _ _
-      (more 1 486 (number-within true _ (omega (arith, signed-abs kind v p))) (omega arith) (omega arith))
+      (more 1 486 (number-within true _ (omega (arith, read-abs kind v))) (omega arith) (omega arith))
       (more 1 486 (number-within false v p) (omega arith) (omega arith)))
 
   address-either : (deref : Bool) → Within 14 487 (address h deref b .tokens)

@@ -3,8 +3,7 @@
 use mathlib.Core.Path.{_≡_, sym, ap, _∙_}
 use mathlib.Core.Bool.{Bool, true, false, _&&_, _||_}
 use mathlib.Core.List.{List, [], _∷_}
-use Prim.Native.Nat.{ℕ, _^_, _%_, _≤_, _<_}
-use native.Mathlib.Nat.{mod-lt}
+use Prim.Native.Nat.{ℕ, _≤_, _<_}
 use native.Mathlib.Omega.{arith}
 use borrow.Author.Tests.{le-leb, lt-leb}
 use lib.Dec.{eqb, leb}
@@ -13,8 +12,8 @@ use mir.Syntax.{w64}
 use mir.Val.{toZ, ofZ, SFits}
 use mir.ValLaws.{toZ-ofZ}
 use Rattle.lists.specs.Choice.{pick}
-use Rattle.lists.specs.Signed.{i32Of, i64Of}
-use Rattle.lists.specs.SignedLaws.{i32-fits}
+use Rattle.lists.specs.Signed.{signedAt}
+use Rattle.lists.specs.SignedLaws.{signed-fits}
 use Rattle.text.specs.Number.{numText}
 use Rattle.tokens.specs.Token.{Token, token}
 use Rattle.tokens.specs.Words.{words, wordToken}
@@ -25,7 +24,6 @@ use Rattle.operand.specs.Expr.{Expr, tight}
 use Rattle.operand.specs.Names.{nameOr, inSpan}
 use Rattle.operand.specs.Memory.{registerToken, number, isSegmentRead, isGlobal, isSlot, segmentRead, global, slotToken, addressOf, address, memExpr, memTokens}
 use Rattle.operand.specs.Operand.{signedRead, inWindow, immediateNumber, immediate, opTokens}
-use Rattle.operand.proofs.Integers.{i64-fits, wide}
 use Rattle.operand.proofs.Readings.{yes-is, no-is}
 
 pub yes-of : {A : Type 0} (t : Bool) (x y : A) → t ≡ true → pick t x y ≡ x
@@ -72,18 +70,18 @@ module _ (h : Header) (s b : List ℕ) (deref : Bool) where
           (others ∙ (no-of (isGlobal b) (tight (global h s deref b)) third q ∙ no-of (isSlot h b) (tight (addressOf deref (slotToken h b))) (address h deref b) e)))
 
 -- the window is asked of a number that fits
-read-fits : (kind v : ℕ) → v < 2 ^ 64 → SFits w64 (signedRead kind v)
+read-fits : (kind v : ℕ) → SFits w64 (signedRead kind v)
 unfolding signedRead
-read-fits kind v h = go (eqb kind 6 || eqb kind 9 || eqb kind 10) (eqb kind 5 || eqb kind 8)
+read-fits kind v = go (eqb kind 6 || eqb kind 9 || eqb kind 10) (eqb kind 5 || eqb kind 8)
   where
-    go : (a b : Bool) → SFits w64 (pick a (i64Of v) (pick b (i32Of (v % 4294967296)) (pos 0)))
-    go true b = i64-fits v h
-    go false true = wide _ (i32-fits (v % 4294967296) (mod-lt v (omega arith)))
+    go : (a b : Bool) → SFits w64 (pick a (signedAt 64 v) (pick b (signedAt 32 v) (pos 0)))
+    go true b = signed-fits w64 64 v (omega arith) (omega arith)
+    go false true = signed-fits w64 32 v (omega arith) (omega arith)
     go false false = record { sfits = omega arith }
 
-module _ (kind v : ℕ) (z : ℤ) (w : Bool) (f : v < 2 ^ 64) (p : z ≡ signedRead kind v) (q : w ≡ inWindow (toZ w64 (ofZ w64 z))) where
+module _ (kind v : ℕ) (z : ℤ) (w : Bool) (p : z ≡ signedRead kind v) (q : w ≡ inWindow (toZ w64 (ofZ w64 z))) where
   back : toZ w64 (ofZ w64 z) ≡ signedRead kind v
-  back = rw p (toZ-ofZ w64 (signedRead kind v) (read-fits kind v f))
+  back = rw p (toZ-ofZ w64 (signedRead kind v) (read-fits kind v))
 
   asked : w ≡ inWindow (signedRead kind v)
   asked = q ∙ ap inWindow back

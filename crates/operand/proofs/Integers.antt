@@ -2,7 +2,7 @@
 -- By the sign of each; a local holds a number's bits, which are read back.
 use mathlib.Core.Path.{_≡_, refl, sym, ap, _∙_}
 use mathlib.Core.Bool.{Bool, true, false, _&&_}
-use Prim.Native.Nat.{ℕ, suc, _+_, _-_, _^_, _≤_, _<_}
+use Prim.Native.Nat.{ℕ, suc, _+_, _-_, _≤_}
 use native.Mathlib.Decide.{decLt}
 use native.Mathlib.Omega.{arith}
 use borrow.Author.Tests.{lt-ltb, le-ltb, le-leb, lt-leb}
@@ -11,8 +11,6 @@ use lib.Signed.{ltZ, leZ}
 use mir.Syntax.{w32, w64}
 use mir.Val.{toZ, ofZ, SFits}
 use mir.ValLaws.{toZ-ofZ}
-use Rattle.lists.specs.Signed.{i32Of, i64Of}
-use Rattle.lists.specs.SignedLaws.{i32-fits}
 use Rattle.operand.specs.declared.numbers.Sized.{Sized}
 use Rattle.operand.specs.Memory.{isNegative}
 use Rattle.operand.specs.Operand.{inWindow}
@@ -76,20 +74,6 @@ pub wide-back : (y z : ℤ) → SFits w32 z → y ≡ toZ w32 (ofZ w32 z) → to
 wide-back y z s e =
     let q : y ≡ z = e ∙ toZ-ofZ w32 z s in
     rw q (toZ-ofZ w64 z (wide z s))
-
--- the readings of 64 and of 32 bits, as they are read back
-pub i64-fits : (x : ℕ) → x < 2 ^ 64 → SFits w64 (i64Of x)
-i64-fits x h =
-    elim (decLt x 0x8000_0000_0000_0000) [
-      | yes a ↦ rw (lt-ltb x 0x8000_0000_0000_0000 a) (record { sfits = omega arith })
-      | no a ↦ rw (le-ltb x 0x8000_0000_0000_0000 (omega arith)) (record { sfits = omega arith })
-    ]
-
-pub back64 : (r : ℤ) (x : ℕ) → r ≡ i64Of x → x < 2 ^ 64 → toZ w64 (ofZ w64 r) ≡ i64Of x
-back64 r x e h = rw e (toZ-ofZ w64 (i64Of x) (i64-fits x h))
-
-pub back32 : (y r : ℤ) (x : ℕ) → y ≡ toZ w32 (ofZ w32 r) → r ≡ i32Of x → x < 2 ^ 32 → toZ w64 (ofZ w64 y) ≡ i32Of x
-back32 y r x d e h = wide-back y (i32Of x) (i32-fits x h) (d ∙ ap (λ (z : ℤ). toZ w32 (ofZ w32 z)) e)
 
 -- the sign of a number that was asked of what is read back
 pub sign-is : (z : ℤ) (r b : Bool) → SFits w64 z → r ≡ isNegative (toZ w64 (ofZ w64 z)) → r ≡ b → isNegative z ≡ b

@@ -1,12 +1,12 @@
 -- `mem`: a memory operand, read (`deref`) or as an address.
-use Prim.Native.Nat.{ℕ, _%_}
+use Prim.Native.Nat.{ℕ}
 use mathlib.Core.Bool.{Bool, true, false, not, _&&_, _||_}
 use mathlib.Core.List.{List, [], _∷_, _++_}
 use lib.Dec.{eqb, ltb}
 use lib.IntN.{ℤ, pos, negsuc, _+ℤ_, natAbs}
 use Rattle.lists.specs.Ascii.{ascii}
 use Rattle.lists.specs.Choice.{pick}
-use Rattle.lists.specs.Signed.{i32Of, i64Of}
+use Rattle.lists.specs.Signed.{signedAt}
 use Rattle.text.specs.Number.{numText}
 use Rattle.tokens.specs.Token.{Token, token, punct, keyword, register}
 use Rattle.tokens.specs.Words.{prefixed}
@@ -88,7 +88,7 @@ module _ (h : Header) where
 
   -- the slot's displacement: signed 64-bit, and shifted
   unfoldable pub slotNumber : List ℕ → ℤ
-  slotNumber b = pick (isShifted b) (i64Of (memoryAddress b) +ℤ h .shift) (i64Of (memoryAddress b))
+  slotNumber b = pick (isShifted b) (signedAt 64 (memoryAddress b) +ℤ h .shift) (signedAt 64 (memoryAddress b))
 
   -- a stack slot: by the frame register, or by the stack pointer and not below it
   unfoldable pub isSlot : List ℕ → Bool
@@ -103,7 +103,7 @@ module _ (h : Header) where
 
   -- the displacement that an address prints: never shifted
   unfoldable pub displacement : List ℕ → ℤ
-  displacement b = pick (eqb (h .bits) 64) (i64Of (memoryAddress b)) (i32Of (memoryAddress b % 4294967296))
+  displacement b = pick (eqb (h .bits) 64) (signedAt 64 (memoryAddress b)) (signedAt 32 (memoryAddress b))
 
   -- base + index × scale
   abbrev pub registers : List ℕ → Expr

@@ -1,11 +1,11 @@
 -- `op`: the tokens of operand i of a body, read from its slot.
-use Prim.Native.Nat.{ℕ, _%_}
+use Prim.Native.Nat.{ℕ}
 use mathlib.Core.Bool.{Bool, true, false, _&&_, _||_}
 use mathlib.Core.List.{List, [], _∷_}
 use lib.Dec.{eqb, leb, ltb}
 use lib.IntN.{ℤ, pos, negsuc, natAbs}
 use Rattle.lists.specs.Choice.{pick}
-use Rattle.lists.specs.Signed.{i32Of, i64Of}
+use Rattle.lists.specs.Signed.{signedAt}
 use Rattle.tokens.specs.Token.{Token, plainText, symbol}
 use Rattle.record.specs.declared.header.Header.{Header}
 use Rattle.record.specs.Body.{operandKind, operandRegister, operandNumber}
@@ -15,8 +15,8 @@ use Rattle.operand.specs.Memory.{registerToken, number, memTokens}
 -- "kinds 6, 9, 10 are read as signed 64-bit and 5, 8 as signed low 32 bits"; no other kind is, and its reading is 0, outside the window
 unfoldable pub signedRead : ℕ → ℕ → ℤ
 signedRead kind v =
-    pick (eqb kind 6 || eqb kind 9 || eqb kind 10) (i64Of v)
-    (pick (eqb kind 5 || eqb kind 8) (i32Of (v % 4294967296)) (pos 0))
+    pick (eqb kind 6 || eqb kind 9 || eqb kind 10) (signedAt 64 v)
+    (pick (eqb kind 5 || eqb kind 8) (signedAt 32 v) (pos 0))
 
 -- "from -4096 up to -1 they print negative. All else prints unsigned."
 abbrev pub inWindow : ℤ → Bool

@@ -1,6 +1,5 @@
 // Signed numbers as sign and 64-bit size, and the window in which an immediate prints negative.
-use lists::signed::signed32;
-use lists::signed::signed64;
+use lists::signed::signed_at;
 ghost use mathlib.Core.Path.{_≡_};
 ghost use Prim.Native.Nat.{_≤_};
 ghost use lib.IntN.{_+ℤ_, natAbs};
@@ -15,7 +14,7 @@ pub struct Sized {
 }
 
 // A number of 32 bits in 64.
-pub fn widened(x: i32) -> i64
+fn widened(x: i32) -> i64
     ensures { λ r. ⌜ r ≡ x ⌝ }
 {
     x as i64
@@ -58,10 +57,10 @@ pub fn signed_read(kind: u8, v: u64) -> i64
     ensures { λ r. ⌜ r ≡ signedRead kind v ⌝ }
 {
     if (kind == 6) | (kind == 9) | (kind == 10) {
-        return signed64(v);
+        return signed_at(v, 0x8000_0000_0000_0000);
     }
     if (kind == 5) | (kind == 8) {
-        return widened(signed32((v % 4294967296) as u32));
+        return signed_at(v % 4294967296, 0x8000_0000);
     }
     0
 }

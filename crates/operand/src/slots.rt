@@ -2,9 +2,7 @@
 use crate::numbers::Sized;
 use crate::numbers::shifted;
 use crate::numbers::size_of;
-use crate::numbers::widened;
-use lists::signed::signed32;
-use lists::signed::signed64;
+use lists::signed::signed_at;
 use record::body::memory_address;
 use record::body::memory_base;
 use record::body::memory_index;
@@ -12,7 +10,7 @@ use record::header::Header;
 use x86::registers::is_stack_pointer;
 ghost use mathlib.Core.Path.{_≡_};
 ghost use lib.IntN.{_+ℤ_};
-ghost use Rattle.lists.specs.Signed.{i32Of, i64Of};
+ghost use Rattle.lists.specs.Signed.{signedAt};
 ghost use Rattle.operand.specs.Memory.{isFrame, isShifted, slotBase, slotNumber, isSlot, displacement};
 ghost use Rattle.operand.specs.Sized.{sizedOf};
 
@@ -43,15 +41,15 @@ pub fn slot_base(h: Header, body: &[u8]) -> u8
 
 // The size of a number read as signed, and of its sum with a shift.
 fn full_size(v: u64) -> Sized
-    ensures { λ r. ⌜ r ≡ sizedOf (i64Of v) ⌝ }
+    ensures { λ r. ⌜ r ≡ sizedOf (signedAt 64 v) ⌝ }
 {
-    size_of(signed64(v))
+    size_of(signed_at(v, 0x8000_0000_0000_0000))
 }
 
 fn shifted_by(v: u64, by: i32) -> Sized
-    ensures { λ r. ⌜ r ≡ sizedOf (i64Of v +ℤ by) ⌝ }
+    ensures { λ r. ⌜ r ≡ sizedOf (signedAt 64 v +ℤ by) ⌝ }
 {
-    shifted(signed64(v), by)
+    shifted(signed_at(v, 0x8000_0000_0000_0000), by)
 }
 
 pub fn slot_number(h: Header, body: &[u8]) -> Sized
@@ -76,10 +74,10 @@ pub fn is_slot(h: Header, body: &[u8]) -> bool
 }
 
 // The size of a number's low 32 bits, read as signed.
-fn low_size(x: u32) -> Sized
-    ensures { λ r. ⌜ r ≡ sizedOf (i32Of x) ⌝ }
+fn low_size(v: u64) -> Sized
+    ensures { λ r. ⌜ r ≡ sizedOf (signedAt 32 v) ⌝ }
 {
-    size_of(widened(signed32(x)))
+    size_of(signed_at(v % 4294967296, 0x8000_0000))
 }
 
 // The displacement that an address prints: never shifted.
@@ -90,5 +88,5 @@ pub fn displacement(h: Header, body: &[u8]) -> Sized
     if h.bits == 64 {
         return full_size(v);
     }
-    low_size((v % 4294967296) as u32)
+    low_size(v)
 }

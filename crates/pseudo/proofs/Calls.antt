@@ -10,6 +10,7 @@ use lib.IntN.{natAbs}
 use lib.ListN.{length, take, length-map}
 use Rattle.lists.specs.Bytes.{u32At}
 use Rattle.lists.specs.Put.{put}
+use Rattle.lists.specs.SignedLaws.{signed-abs}
 use Rattle.record.specs.declared.header.Header.{Header}
 use Rattle.record.specs.declared.asked.Asked.{Asked}
 use Rattle.record.specs.declared.asked.Asked.the-variants as case
@@ -20,7 +21,7 @@ use Rattle.structure.specs.Plan.{codeOf}
 use Rattle.structure.specs.Demand.{Shallow}
 use Rattle.structure.specs.Stored.{Stored}
 use Rattle.operand.proofs.Accepted.{accepted-rising}
-use Rattle.operand.proofs.Bounds.{AllBytes, i32-abs}
+use Rattle.operand.proofs.Bounds.{AllBytes}
 use Rattle.operand.specs.Lent.{Rising}
 use Rattle.flow.specs.Rows.{blockRows}
 use Rattle.flow.proofs.Laws.{filled}
@@ -63,9 +64,9 @@ module _ (s : List ℕ) (from to : ℕ) (h : Header) (a : Accepted s from to h) 
       let t = limits-small h limits .blocks in
       (omega (arith, in-range), omega (arith, in-range))
 
-  shift-small : AllBytes s → natAbs (h .shift) ≤ 2 ^ 31
+  shift-small : natAbs (h .shift) ≤ 2 ^ 31
   unfolding headerOf
-  shift-small bs = rw (a .header) (i32-abs (u32At s 16) (omega (arith, bs 16, bs 17, bs 18, bs 19)))
+  shift-small = rw (a .header) (signed-abs 32 (u32At s 16) (omega arith))
 
   few : length (recordPlan h s from to) ≤ 900
   few = record-few h s from to limits counted in-range
@@ -87,7 +88,7 @@ module _ (s : List ℕ) (from to : ℕ) (h : Header) (a : Accepted s from to h) 
         ∙ lines-again to 500 (recordPlan h s from to) (omega (arith, in-range, limits-small h limits .blocks)) (omega arith) (record-placed h s from to limits counted in-range)
 
     pub plan-fits : AllBytes s → (range : ℕ) → Fits (printed h s range 0 (map lineIn codes))
-    plan-fits bs range = rw lines-are (printed-fits h s bs (shift-small bs) range 0 to (recordPlan h s from to) (record-placed h s from to limits counted in-range) few)
+    plan-fits bs range = rw lines-are (printed-fits h s bs shift-small range 0 to (recordPlan h s from to) (record-placed h s from to limits counted in-range) few)
 
     indents : (cs : List ℕ) → Shallow 256 (map lineIn cs) → Indented cs
     unfolding lineIn

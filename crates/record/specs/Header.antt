@@ -5,7 +5,7 @@ use mathlib.Core.Bool.{Bool, _&&_, _||_}
 use lib.ListN.{length}
 use lib.Dec.{leb, eqb}
 use Rattle.lists.specs.Bytes.{u8At, u16At, u32At}
-use Rattle.lists.specs.Signed.{i32Of, isZero}
+use Rattle.lists.specs.Signed.{signedAt, isZero}
 use Rattle.record.specs.declared.header.Header.{Header}
 
 -- "Header, 24 bytes: u16 bits (32 or 64), convention (0 Microsoft x64, 1 System V), B blocks, I instructions, E edges,
@@ -21,7 +21,7 @@ headerOf s = record {
   atlas = u16At s 10;
   spans = u16At s 12;
   frame = u16At s 14;
-  shift = i32Of (u32At s 16);
+  shift = signedAt 32 (u32At s 16);
   shifted = u8At s 20;
   indent = u8At s 21;
   text = u16At s 22;

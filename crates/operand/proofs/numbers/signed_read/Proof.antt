@@ -1,34 +1,34 @@
 -- `numbers::signed_read` meets its contract.
 -- By the kind.
-use Prim.Native.Nat.{_%_}
-use native.Mathlib.Nat.{mod-lt}
+use mathlib.Core.Path.{refl, sym}
+use native.Mathlib.Nat.{mod-eq-of-lt}
 use native.Mathlib.Omega.{arith}
+use mir.Syntax.{w64}
+use Rattle.lists.specs.SignedLaws.{signed-back}
 use Rattle.operand.specs.Operand.{signedRead}
-use Rattle.operand.proofs.Integers.{back64, back32}
 use borrow.Author.Needs.{needs}
 use Rattle.operand.proofs.numbers.signed_read.Statement.{statement}
 use Rattle.operand.proofs.numbers.signed_read.Tie as tie
 
-signed64-requires : tie.Need-signed64-requires
-signed64-requires c κs = search needs
+signed-at-requires : tie.Need-signed-at-requires
+signed-at-requires c κs = search needs
 
 returns : tie.Need-returns
 unfolding signedRead
-returns c = rw (c .before .if1 .taken) (back64 _ (c .before .before .args .v) (c .signed64 .ensures) (omega arith))
+returns c =
+    let v = c .before .before .args .v in
+    let e = c .signed-at .ensures 64 v (omega arith) refl (sym (mod-eq-of-lt (omega arith))) in
+    rw (c .before .if1 .taken) (signed-back w64 64 v (omega arith) (omega arith) _ e)
 
-cast-signed32 : tie.Need-cast-signed32
-cast-signed32 c = search needs
-
-signed32-requires : tie.Need-signed32-requires
-signed32-requires c κs = search needs
-
-widened-requires : tie.Need-widened-requires
-widened-requires c κs = search needs
+signed-at-requires-2 : tie.Need-signed-at-requires-2
+signed-at-requires-2 c κs = search needs
 
 returns-2 : tie.Need-returns-2
 unfolding signedRead
 returns-2 c =
-    rw (c .before .before .before .if1 .left, c .before .before .if2 .taken) (back32 _ _ (c .before .before .before .before .args .v % 4294967296) (c .widened .ensures) (c .before .signed32 .ensures) (mod-lt (c .before .before .before .before .args .v) (omega arith)))
+    let v = c .before .before .before .args .v in
+    let e = c .signed-at2 .ensures 32 v (omega arith) refl refl in
+    rw (c .before .before .if1 .left, c .before .if2 .taken) (signed-back w64 32 v (omega arith) (omega arith) _ e)
 
 returns-3 : tie.Need-returns-3
 unfolding signedRead
@@ -37,11 +37,4 @@ returns-3 c = rw (c .before .if1 .left, c .if2 .left)
 pub signed-read-spec : {M : Type 1} → statement M
 signed-read-spec =
     tie.close
-    (tie.spec
-    signed64-requires
-    returns
-    cast-signed32
-    signed32-requires
-    widened-requires
-    returns-2
-    returns-3)
+    (tie.spec signed-at-requires returns signed-at-requires-2 returns-2 returns-3)

@@ -1,6 +1,5 @@
 -- `operand::code_immediate` meets its contract.
 -- By whether it lies in the window.
-use native.Mathlib.Omega.{arith}
 use Rattle.codes.proofs.EachToken.{as-token}
 use Rattle.operand.proofs.Choices.{in-window, not-in-window}
 use borrow.Author.Needs.{needs}
@@ -25,7 +24,7 @@ same-length c = search needs
 returns : tie.Need-returns
 returns c t s =
     let a = c .before .before .before .before .before .before .before .before .before .args in
-    as-token _ _ (in-window (a .kind) (a .v) _ _ (omega arith) (c .before .before .before .before .before .before .before .signed-read .ensures) (c .before .before .before .before .before .before .in-window .ensures) (c .before .before .before .before .before .if1 .taken) _ (c .before .before .before .magnitude .ensures .0)) (c .before .before .code-num .ensures t s)
+    as-token _ _ (in-window (a .kind) (a .v) _ _ (c .before .before .before .before .before .before .before .signed-read .ensures) (c .before .before .before .before .before .before .in-window .ensures) (c .before .before .before .before .before .if1 .taken) _ (c .before .before .before .magnitude .ensures .0)) (c .before .before .code-num .ensures t s)
 
 code-num-requires-2 : tie.Need-code-num-requires-2
 code-num-requires-2 c κs = search needs
@@ -36,7 +35,7 @@ same-length-2 c = search needs
 returns-2 : tie.Need-returns-2
 returns-2 c t s =
     let a = c .before .before .before .before .before .before .before .before .args in
-    as-token _ _ (not-in-window (a .kind) (a .v) _ _ (omega arith) (c .before .before .before .before .before .before .signed-read .ensures) (c .before .before .before .before .before .in-window .ensures) (c .before .before .before .before .if1 .left)) (c .before .before .code-num2 .ensures t s)
+    as-token _ _ (not-in-window (a .kind) (a .v) _ _ (c .before .before .before .before .before .before .signed-read .ensures) (c .before .before .before .before .before .in-window .ensures) (c .before .before .before .before .if1 .left)) (c .before .before .code-num2 .ensures t s)
 
 pub code-immediate-spec : {M : Type 1} → statement M
 code-immediate-spec =

@@ -1,9 +1,9 @@
 -- `slots::displacement` meets its contract.
 -- By the width.
 use mathlib.Core.Path.{ap, _∙_}
-use Prim.Native.Nat.{ℕ, _%_}
+use Prim.Native.Nat.{ℕ}
 use borrow.Author.Tests.{eq-eqb, ne-eqb}
-use Rattle.lists.specs.Signed.{i32Of, i64Of}
+use Rattle.lists.specs.Signed.{signedAt}
 use Rattle.operand.specs.declared.numbers.Sized.{Sized}
 use Rattle.operand.specs.Sized.{sizedOf}
 use Rattle.operand.specs.Memory.{displacement}
@@ -20,10 +20,7 @@ full-size-requires c κs = search needs
 returns : tie.Need-returns
 unfolding displacement
 returns c =
-    rw (eq-eqb _ _ (c .before .if1 .taken)) (c .full-size .ensures ∙ ap {B = Sized} (λ (n : ℕ). sizedOf (i64Of n)) (c .before .before .before .memory-address .ensures))
-
-cast-low-size : tie.Need-cast-low-size
-cast-low-size c = search needs
+    rw (eq-eqb _ _ (c .before .if1 .taken)) (c .full-size .ensures ∙ ap {B = Sized} (λ (n : ℕ). sizedOf (signedAt 64 n)) (c .before .before .before .memory-address .ensures))
 
 low-size-requires : tie.Need-low-size-requires
 low-size-requires c κs = search needs
@@ -31,7 +28,7 @@ low-size-requires c κs = search needs
 returns-2 : tie.Need-returns-2
 unfolding displacement
 returns-2 c =
-    rw (ne-eqb _ _ (c .before .if1 .left)) (c .low-size .ensures ∙ ap {B = Sized} (λ (n : ℕ). sizedOf (i32Of (n % 4294967296))) (c .before .before .before .memory-address .ensures))
+    rw (ne-eqb _ _ (c .before .if1 .left)) (c .low-size .ensures ∙ ap {B = Sized} (λ (n : ℕ). sizedOf (signedAt 32 n)) (c .before .before .before .memory-address .ensures))
 
 pub displacement-spec : {M : Type 1} → statement M
 displacement-spec =
@@ -40,6 +37,5 @@ displacement-spec =
     memory-address-requires
     full-size-requires
     returns
-    cast-low-size
     low-size-requires
     returns-2)

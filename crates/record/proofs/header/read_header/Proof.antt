@@ -1,11 +1,11 @@
 -- The header of a record: `read_header` meets its contract.
 -- Each field is read at its own offset.
-use mathlib.Core.Path.{_≡_, _∙_}
+use mathlib.Core.Path.{_≡_}
+use native.Mathlib.Omega.{arith}
 use mir.Syntax.{w32}
-use mir.Val.{toZ, ofZ, SFits}
-use mir.ValLaws.{toZ-ofZ}
-use Rattle.lists.specs.Signed.{i32Of}
-use Rattle.lists.specs.SignedLaws.{i32-fits}
+use mir.Val.{toZ, ofZ}
+use Rattle.lists.specs.Signed.{signedAt}
+use Rattle.lists.specs.SignedLaws.{signed-back}
 use Rattle.record.specs.Header.{headerOf}
 use borrow.Author.Needs.{needs}
 use Rattle.record.proofs.header.read_header.Statement.{statement}
@@ -55,8 +55,7 @@ unfolding headerOf
 returns c =
     let z = c .before .before .before .signed32 in
     let u = c .before .before .before .before .u32-at in
-    let f : SFits w32 (z .result) = rw (z .ensures) (i32-fits (u .result) (u .ensures .1)) in
-    let e : toZ w32 (ofZ w32 (z .result)) ≡ i32Of (u .result) = toZ-ofZ w32 (z .result) f ∙ z .ensures in
+    let e : toZ w32 (ofZ w32 (z .result)) ≡ signedAt 32 (u .result) = signed-back w32 32 (u .result) (omega arith) (omega arith) (z .result) (z .ensures) in
     simp (
       c .u16-at9 .ensures .0,
       c .before .u8-at2 .ensures .0,
