@@ -27,12 +27,13 @@ small-signed w v o l = sym (below-half v (2 ^ (w - 1)) w v refl (sym (mod-eq-of-
 small-read : (kind v : ℕ) → v < 4096 → inWindow (signedRead kind v) ≡ false
 unfolding signedRead
 small-read kind v l =
-    go (eqb kind 6 || eqb kind 9 || eqb kind 10) (eqb kind 5 || eqb kind 8)
+    go (eqb kind 6 || eqb kind 9 || eqb kind 10) (eqb kind 5 || eqb kind 8) (eqb kind 7)
   where
-    go : (a b : Bool) → inWindow (pick a (signedAt 64 v) (pick b (signedAt 32 v) (pos 0))) ≡ false
-    go true b = ap inWindow (small-signed 64 v (omega arith) (omega (arith, l)))
-    go false true = ap inWindow (small-signed 32 v (omega arith) (omega (arith, l)))
-    go false false = refl
+    go : (a b c : Bool) → inWindow (pick a (signedAt 64 v) (pick b (signedAt 32 v) (pick c (signedAt 16 v) (pos 0)))) ≡ false
+    go true b c = ap inWindow (small-signed 64 v (omega arith) (omega (arith, l)))
+    go false true c = ap inWindow (small-signed 32 v (omega arith) (omega (arith, l)))
+    go false false true = ap inWindow (small-signed 16 v (omega arith) (omega (arith, l)))
+    go false false false = refl
 
 module _ (h : Header) (s b : List ℕ) (i k v : ℕ) (p : k ≡ operandKind b i) (q : v ≡ operandNumber b i) where
   small-is : v < 4096 → number false v ≡ immediate h s k v

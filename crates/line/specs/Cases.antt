@@ -148,11 +148,11 @@ case-b = record {
   expected = eaxGets "-0x1000" ∷ eaxGets "0xffffefff" ∷ [];
 }
 
--- "(c) kind 7, 0xFFFF `0xffff`": added to ax
+-- "(c) kind 7, 0xFFFF `0xffff`"; by #106 "Row (c) of the proved cases becomes `-1`": added to ax
 abbrev case-c : Case
 case-c = record {
   bytes = plain ((0x1000, insn add noMemory (inRegister 0x30 ∷ slot 7 0 0xFFFF ∷ [])) ∷ []);
-  expected = (register "ax" ∷ punct " += " ∷ numeral "0xffff" ∷ punct ";" ∷ []) ∷ [];
+  expected = (register "ax" ∷ punct " += " ∷ numeral "-1" ∷ punct ";" ∷ []) ∷ [];
 }
 
 -- "(d) rax, rcx × 4, 8, size 4 `*(uint32_t *)((rax + (rcx * 4)) + 8)`": a store of ecx
@@ -248,7 +248,6 @@ all-print =
       hex false 0 10 (omega arith),
       hex false 7 0x1000 (omega arith),
       hex false 7 0xFFFFEFFF (omega arith),
-      hex false 7 0xFFFF (omega arith),
       hex true 7 0x20 (omega arith),
       hex false 7 0x30 (omega arith),
       hex true 7 0xFFFFFFF8 (omega arith),

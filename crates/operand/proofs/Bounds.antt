@@ -185,7 +185,8 @@ read-abs : (kind v : ℕ) → natAbs (signedRead kind v) ≤ 1844674407370955161
 unfolding signedRead
 read-abs kind v =
     pick-le natAbs 18446744073709551615 (eqb kind 6 || eqb kind 9 || eqb kind 10) (signedAt 64 v) _ (omega (arith, signed-abs 64 v (omega arith)))
-    (pick-le natAbs 18446744073709551615 (eqb kind 5 || eqb kind 8) (signedAt 32 v) (pos 0) (omega (arith, signed-abs 32 v (omega arith))) (omega arith))
+    (pick-le natAbs 18446744073709551615 (eqb kind 5 || eqb kind 8) (signedAt 32 v) _ (omega (arith, signed-abs 32 v (omega arith)))
+    (pick-le natAbs 18446744073709551615 (eqb kind 7) (signedAt 16 v) (pos 0) (omega (arith, signed-abs 16 v (omega arith))) (omega arith)))
 
 module _ (h : Header) (s b : List ℕ) (ss : AllBytes s) (bs : AllBytes b) where
   immediate-within : (kind v : ℕ) → v < 2 ^ 64 → Within 1 486 (immediate h s kind v ∷ [])

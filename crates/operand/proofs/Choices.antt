@@ -72,12 +72,13 @@ module _ (h : Header) (s b : List ℕ) (deref : Bool) where
 -- the window is asked of a number that fits
 read-fits : (kind v : ℕ) → SFits w64 (signedRead kind v)
 unfolding signedRead
-read-fits kind v = go (eqb kind 6 || eqb kind 9 || eqb kind 10) (eqb kind 5 || eqb kind 8)
+read-fits kind v = go (eqb kind 6 || eqb kind 9 || eqb kind 10) (eqb kind 5 || eqb kind 8) (eqb kind 7)
   where
-    go : (a b : Bool) → SFits w64 (pick a (signedAt 64 v) (pick b (signedAt 32 v) (pos 0)))
-    go true b = signed-fits w64 64 v (omega arith) (omega arith)
-    go false true = signed-fits w64 32 v (omega arith) (omega arith)
-    go false false = record { sfits = omega arith }
+    go : (a b c : Bool) → SFits w64 (pick a (signedAt 64 v) (pick b (signedAt 32 v) (pick c (signedAt 16 v) (pos 0))))
+    go true b c = signed-fits w64 64 v (omega arith) (omega arith)
+    go false true c = signed-fits w64 32 v (omega arith) (omega arith)
+    go false false true = signed-fits w64 16 v (omega arith) (omega arith)
+    go false false false = record { sfits = omega arith }
 
 module _ (kind v : ℕ) (z : ℤ) (w : Bool) (p : z ≡ signedRead kind v) (q : w ≡ inWindow (toZ w64 (ofZ w64 z))) where
   back : toZ w64 (ofZ w64 z) ≡ signedRead kind v

@@ -12,11 +12,13 @@ use Rattle.record.specs.Body.{operandKind, operandRegister, operandNumber}
 use Rattle.operand.specs.Names.{nameOr, inSpan}
 use Rattle.operand.specs.Memory.{registerToken, number, memTokens}
 
--- "kinds 6, 9, 10 are read as signed 64-bit and 5, 8 as signed low 32 bits"; no other kind is, and its reading is 0, outside the window
+-- "kinds 6, 9, 10 are read as signed 64-bit and 5, 8 as signed low 32 bits", and by #106 "Kind 7 is now read as the signed low 16 bits"; no
+-- other kind is, and its reading is 0, outside the window
 unfoldable pub signedRead : ℕ → ℕ → ℤ
 signedRead kind v =
     pick (eqb kind 6 || eqb kind 9 || eqb kind 10) (signedAt 64 v)
-    (pick (eqb kind 5 || eqb kind 8) (signedAt 32 v) (pos 0))
+    (pick (eqb kind 5 || eqb kind 8) (signedAt 32 v)
+    (pick (eqb kind 7) (signedAt 16 v) (pos 0)))
 
 -- "from -4096 up to -1 they print negative. All else prints unsigned."
 abbrev pub inWindow : ℤ → Bool

@@ -62,6 +62,9 @@ pub fn signed_read(kind: u8, v: u64) -> i64
     if (kind == 5) | (kind == 8) {
         return signed_at(v % 4294967296, 0x8000_0000);
     }
+    if kind == 7 {
+        return signed_at(v % 65536, 0x8000);
+    }
     0
 }
 

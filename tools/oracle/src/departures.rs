@@ -1,6 +1,6 @@
 //! What document 02's requests leave out of the comparison with the unchanged Rust, from their words: there the amended one is asked.
 
-use crate::record::{mnemonic as m, Insn, Record};
+use crate::record::{kind, mnemonic as m, Insn, Operand, Record};
 
 /// "The nearest flag writer" is one of these, by document 01.
 const FLAG_WRITERS: [u8; 15] =
@@ -9,15 +9,28 @@ const FLAG_WRITERS: [u8; 15] =
 /// e, ne, s and ns. Each is turned into one of them.
 const ZERO_AND_SIGN: [u8; 4] = [5, 6, 9, 10];
 
-/// #104: after BT or IMUL as the nearest flag writer "the conditions e, ne, s and ns now print the `__flags_` word". `insns` are those of
-/// the block before the instruction that tests the condition.
-pub fn condition(insns: &[Insn], condition: u8) -> bool {
-    let writer = insns.iter().map(|i| i.mnemonic).rfind(|m| FLAG_WRITERS.contains(m));
-    ZERO_AND_SIGN.contains(&condition) && [Some(m::BT), Some(m::IMUL)].contains(&writer)
+/// #106: "negative 8to16 numbers leave the comparison with the Rust". "The span rule still comes first": one that is a name stays.
+pub fn operand(record: &Record, operand: &Operand) -> bool {
+    let n = operand.number;
+    let is_name = n >= 0x1000 && record.spans.iter().any(|(first, last)| (*first..=*last).contains(&n));
+    operand.kind == kind::IMM8TO16 && (-4096..0).contains(&(n as u16 as i16)) && !is_name
 }
 
-/// For each instruction of the record whether its line departs.
+/// What a condition prints: #104, after BT or IMUL as the nearest flag writer "the conditions e, ne, s and ns now print the `__flags_` word";
+/// #106, of the writer's operands. `insns` are those of the block before the instruction that tests the condition.
+pub fn condition(record: &Record, insns: &[Insn], condition: u8) -> bool {
+    let Some(writer) = insns.iter().rfind(|i| FLAG_WRITERS.contains(&i.mnemonic)) else { return false };
+    let no_relation = ZERO_AND_SIGN.contains(&condition) && [m::BT, m::IMUL].contains(&writer.mnemonic);
+    no_relation || writer.operands.iter().any(|o| operand(record, o))
+}
+
+/// For each instruction of the record whether its line departs: by its operands, its condition, or what is pushed for the call that it is.
 pub fn lines(record: &Record) -> Vec<bool> {
-    let of = |insns: &[Insn]| (0..insns.len()).map(|n| condition(&insns[..n], insns[n].condition)).collect::<Vec<bool>>();
+    let pushed = record.insns().any(|i| i.mnemonic == m::PUSH && operand(record, &i.operands[0]));
+    let departs = |before: &[Insn], i: &Insn| {
+        let calls = pushed && [m::CALL, m::JMP].contains(&i.mnemonic);
+        calls || i.operands.iter().any(|o| operand(record, o)) || i.condition != 0 && condition(record, before, i.condition)
+    };
+    let of = |insns: &[Insn]| (0..insns.len()).map(|n| departs(&insns[..n], &insns[n])).collect::<Vec<bool>>();
     record.blocks.iter().flat_map(|b| of(&b.insns)).collect()
 }

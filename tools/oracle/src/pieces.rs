@@ -81,7 +81,8 @@ pub fn all(record: &Record) -> Vec<Piece> {
     let none = vec![false; firsts.len()];
     let slots = operands(record);
     for k in 0..5 {
-        add(k as u8, slots.iter().map(|s| s[k].clone()).collect(), &none);
+        let departs: Vec<bool> = record.insns().map(|i| departures::operand(record, &i.operands[k])).collect();
+        add(k as u8, slots.iter().map(|s| s[k].clone()).collect(), &departs);
     }
     add(READ, memory(record, true), &none);
     add(ADDRESS, memory(record, false), &none);
@@ -103,7 +104,12 @@ fn firsts(record: &Record) -> Vec<u16> {
 
 /// Every operand slot of every instruction, beyond the count too.
 pub fn operands(record: &Record) -> Vec<[Tokens; 5]> {
-    emitter::operands(record).iter().map(|slots| std::array::from_fn(|k| Tokens::new(&slots[k]))).collect()
+    let both = emitter::operands(record).into_iter().zip(amended::operands(record));
+    both.zip(record.insns())
+        .map(|((rust, amended), i)| {
+            std::array::from_fn(|k| Tokens::new(if departures::operand(record, &i.operands[k]) { &amended[k] } else { &rust[k] }))
+        })
+        .collect()
 }
 
 /// Every instruction's memory operand, read, or as the address that `lea` prints.
@@ -114,7 +120,7 @@ pub fn memory(record: &Record, read: bool) -> Vec<Tokens> {
 /// For each instruction whether a condition that it tests departs.
 fn departing(record: &Record, condition: u8) -> Vec<bool> {
     let blocks = record.blocks.iter().map(|b| &b.insns);
-    blocks.flat_map(|i| (0..i.len()).map(|n| departures::condition(&i[..n], condition))).collect()
+    blocks.flat_map(|i| (0..i.len()).map(|n| departures::condition(record, &i[..n], condition))).collect()
 }
 
 /// What a condition (1 to 16) prints when each instruction tests it.

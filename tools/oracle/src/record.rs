@@ -47,6 +47,7 @@ pub mod kind {
     pub const NEAR: u8 = 2;
     pub const IMM8: u8 = 3;
     pub const IMM32: u8 = 5;
+    pub const IMM8TO16: u8 = 7;
     pub const IMM32TO64: u8 = 10;
     pub const OTHER: u8 = 11;
 }

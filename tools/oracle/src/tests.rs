@@ -125,7 +125,8 @@ fn case_b_kind_5() {
 
 #[test]
 fn case_c_kind_7() {
-    assert_eq!(mov_imm(7, 0xFFFF), "0xffff");
+    let values = [0xFFFF, 0xF000, 0xEFFF, 0x1FFFE];
+    assert_eq!(values.map(|v| mov_imm(7, v)), ["-1", "-0x1000", "0xefff", "-2"]);
 }
 
 #[test]
@@ -219,25 +220,33 @@ fn pieces_of_the_example() {
     );
 }
 
-/// The amended Rust prints otherwise exactly where a request is said to depart.
+/// The amended Rust prints otherwise only where a request is said to depart, and an operand always where one is.
 #[test]
 fn amended_where_a_request_departs() {
+    use crate::departures::{condition, operand};
+    use crate::{amended, emitter};
     let mut rng = crate::rng::Rng::new(3);
-    let mut departing = 0;
     let text = |tokens: &[crate::model::Token]| tokens.iter().map(|t| t.t.as_str()).collect::<String>();
+    let mut unlike = [0; 2];
     for _ in 0..500 {
         let record = Record::parse(&crate::damage::valid_call(&mut rng).bytes);
+        for ((rust, amended), i) in emitter::operands(&record).iter().zip(&amended::operands(&record)).zip(record.insns()) {
+            for k in 0..5 {
+                assert_eq!(text(&rust[k]) != text(&amended[k]), operand(&record, &i.operands[k]));
+                unlike[0] += usize::from(operand(&record, &i.operands[k]));
+            }
+        }
         for c in 1..=16 {
-            let (rust, amended) = (crate::emitter::conditions(&record, c), crate::amended::conditions(&record, c));
+            let both = emitter::conditions(&record, c).into_iter().zip(amended::conditions(&record, c));
             let blocks = record.blocks.iter().map(|b| &b.insns);
-            let departs = blocks.flat_map(|i| (0..i.len()).map(|n| crate::departures::condition(&i[..n], c)));
-            for ((rust, amended), departs) in rust.iter().zip(&amended).zip(departs) {
-                assert_eq!(text(rust) != text(amended), departs);
-                departing += usize::from(departs);
+            let departs = blocks.flat_map(|i| (0..i.len()).map(|n| condition(&record, &i[..n], c)));
+            for ((rust, amended), departs) in both.zip(departs) {
+                assert!(departs || text(&rust) == text(&amended));
+                unlike[1] += usize::from(text(&rust) != text(&amended));
             }
         }
     }
-    assert!(departing > 1000);
+    assert!(unlike[0] > 100 && unlike[1] > 1000, "{unlike:?}");
 }
 
 #[test]

@@ -3,6 +3,7 @@
 use mathlib.Core.Path.{refl, sym}
 use native.Mathlib.Nat.{mod-eq-of-lt}
 use native.Mathlib.Omega.{arith}
+use borrow.Author.Tests.{eq-eqb, ne-eqb}
 use mir.Syntax.{w64}
 use Rattle.lists.specs.SignedLaws.{signed-back}
 use Rattle.operand.specs.Operand.{signedRead}
@@ -30,11 +31,29 @@ returns-2 c =
     let e = c .signed-at2 .ensures 32 v (omega arith) refl refl in
     rw (c .before .before .if1 .left, c .before .if2 .taken) (signed-back w64 32 v (omega arith) (omega arith) _ e)
 
+signed-at-requires-3 : tie.Need-signed-at-requires-3
+signed-at-requires-3 c κs = search needs
+
 returns-3 : tie.Need-returns-3
 unfolding signedRead
-returns-3 c = rw (c .before .if1 .left, c .if2 .left)
+returns-3 c =
+    let v = c .before .before .before .before .args .v in
+    let e = c .signed-at3 .ensures 16 v (omega arith) refl refl in
+    rw (c .before .before .before .if1 .left, c .before .before .if2 .left, eq-eqb _ _ (c .before .if3 .taken))
+    (signed-back w64 16 v (omega arith) (omega arith) _ e)
+
+returns-4 : tie.Need-returns-4
+unfolding signedRead
+returns-4 c = rw (c .before .before .if1 .left, c .before .if2 .left, ne-eqb _ _ (c .if3 .left))
 
 pub signed-read-spec : {M : Type 1} → statement M
 signed-read-spec =
     tie.close
-    (tie.spec signed-at-requires returns signed-at-requires-2 returns-2 returns-3)
+    (tie.spec
+    signed-at-requires
+    returns
+    signed-at-requires-2
+    returns-2
+    signed-at-requires-3
+    returns-3
+    returns-4)
