@@ -10,6 +10,7 @@ use lib.ListN.{length, take, length-take}
 use Rattle.lists.specs.Every.{every-at}
 use Rattle.tokens.specs.Token.{Token, punct, keyword}
 use Rattle.x86.specs.Mnemonics.{isBtOrImul}
+use Rattle.x86.specs.Width.{passesRegisters}
 use Rattle.x86.specs.Conditions.{conditionNames, conditionName, Relation, none, relations, operatorText, relationAfterCmp, relationAfterTest, relationAfterOther, printsUnsigned}
 use Rattle.x86.specs.Conventions.{microsoft, systemV, argumentRegisters, argumentCount}
 use Rattle.record.specs.declared.header.Header.{Header}
@@ -63,13 +64,13 @@ registers-within convention mask =
     let l = length-take (argumentCount convention mask) (argumentRegisters convention) in
     more 12 42 (listed-within false (take (argumentCount convention mask) (argumentRegisters convention))) (omega (arith, few, l)) (omega (arith, few, l))
 
-back-few : (frame : ℕ) (bodies : List ℕ) (first n : ℕ) → length (pushesBack frame bodies first n) ≤ n
+back-few : (bits frame : ℕ) (bodies : List ℕ) (first n : ℕ) → length (pushesBack bits frame bodies first n) ≤ n
 unfolding pushesBack
-back-few frame bodies first zero = omega arith
-back-few frame bodies first (suc n) =
-    let l = back-few frame bodies first n in
-    pick-le length (suc n) (isUnskipped frame bodies call (first + n)) _ _ (omega arith)
-    (pick-le length (suc n) (isUnskipped frame bodies push (first + n)) _ _ (omega (arith, l)) (omega (arith, l)))
+back-few bits frame bodies first zero = omega arith
+back-few bits frame bodies first (suc n) =
+    let l = back-few bits frame bodies first n in
+    pick-le length (suc n) (isUnskipped bits frame bodies call (first + n)) _ _ (omega arith)
+    (pick-le length (suc n) (isUnskipped bits frame bodies push (first + n)) _ _ (omega (arith, l)) (omega (arith, l)))
 
 pub body-bytes : (h : Header) (s : List ℕ) → AllBytes s → (i : ℕ) → AllBytes (bodyOf h s i)
 body-bytes h s ss i = bytes-drop (92 * i) (bodiesOf h s) (bytes-drop (bodiesAt h) s ss)
@@ -122,7 +123,7 @@ module _ (h : Header) (s : List ℕ) (ss : AllBytes s) (shift : natAbs (h .shift
   pub arguments-within : (first i mask : ℕ) → i ≤ 500 → Within 7500 244500 (argumentTokens h s first i mask)
   unfolding argumentTokens
   arguments-within first i mask l =
-      let few = back-few (h .frame) (bodiesOf h s) first (i - first) in
-      either (Within 7500 244500) (eqb (h .bits) 32) _ _
-      (more 7500 244500 (pushed-within false (pushesBack (h .frame) (bodiesOf h s) first (i - first))) (omega (arith, few)) (omega (arith, few)))
+      let few = back-few (h .bits) (h .frame) (bodiesOf h s) first (i - first) in
+      either (Within 7500 244500) (passesRegisters (h .bits)) _ _
       (more 7500 244500 (registers-within (h .convention) mask) (omega arith) (omega arith))
+      (more 7500 244500 (pushed-within false (pushesBack (h .bits) (h .frame) (bodiesOf h s) first (i - first))) (omega (arith, few)) (omega (arith, few)))

@@ -33,5 +33,5 @@ module _ {t s c : List ℕ} where
 
 -- the pushes in the record's bodies
 pub all-pushed : (h : Header) (s bodies : List ℕ) (first i : ℕ) → bodies ≡ bodiesOf h s
-    → pushed h s false (pushesBack (h .frame) bodies first (i - first)) ≡ pushed h s false (pushesBack (h .frame) (bodiesOf h s) first (i - first))
+    → pushed h s false (pushesBack (h .bits) (h .frame) bodies first (i - first)) ≡ pushed h s false (pushesBack (h .bits) (h .frame) (bodiesOf h s) first (i - first))
 all-pushed h s bodies first i e = rw e

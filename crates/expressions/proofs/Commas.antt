@@ -13,6 +13,7 @@ use borrow.Author.Tests.{lt-ltb, eq-eqb, ne-eqb}
 use Rattle.lists.specs.Choice.{pick}
 use Rattle.tokens.specs.Token.{Token}
 use Rattle.x86.specs.Conventions.{argumentRegisters, argumentRegister, argumentCount}
+use Rattle.x86.specs.Width.{passesRegisters}
 use Rattle.x86.proofs.Written.{up-to}
 use Rattle.record.specs.declared.header.Header.{Header}
 use Rattle.record.specs.Layout.{bodiesOf}
@@ -91,20 +92,20 @@ push-of c true w e f = rw (e, f)
 push-of c false w e f = rw (e, f)
 
 -- the same of instruction i, by its body and mnemonic as they were read
-module _ (frame : ℕ) (bodies b : List ℕ) (i m : ℕ) (p : b ≡ bodyAt bodies i) (q : m ≡ mnemonicOf b) where
+module _ (bits frame : ℕ) (bodies b : List ℕ) (i m : ℕ) (p : b ≡ bodyAt bodies i) (q : m ≡ mnemonicOf b) where
   abbrev part : ℕ
-  part = pick (isUnskipped frame bodies 23 i) 1 (pick (isUnskipped frame bodies 21 i) 2 0)
+  part = pick (isUnskipped bits frame bodies 23 i) 1 (pick (isUnskipped bits frame bodies 21 i) 2 0)
 
-  part-is : (k : Bool) → k ≡ isSkipped frame (bodyAt bodies i) → partBy (eqb m 23) (eqb m 21) k ≡ part
+  part-is : (k : Bool) → k ≡ isSkipped bits frame (bodyAt bodies i) → partBy (eqb m 23) (eqb m 21) k ≡ part
   unfolding isUnskipped
   part-is k r = rw (r, q, p)
 
   pub part-other : (eqb m 23 || eqb m 21) ≡ false → 0 ≡ part
-  part-other f = other (eqb m 23) (eqb m 21) (isSkipped frame (bodyAt bodies i)) f ∙ part-is (isSkipped frame (bodyAt bodies i)) refl
+  part-other f = other (eqb m 23) (eqb m 21) (isSkipped bits frame (bodyAt bodies i)) f ∙ part-is (isSkipped bits frame (bodyAt bodies i)) refl
 
-  module _ (b′ : List ℕ) (k : Bool) (e : b′ ≡ bodyAt bodies i) (r : k ≡ isSkipped frame b′) where
+  module _ (b′ : List ℕ) (k : Bool) (e : b′ ≡ bodyAt bodies i) (r : k ≡ isSkipped bits frame b′) where
     kept-is : partBy (eqb m 23) (eqb m 21) k ≡ part
-    kept-is = part-is k (r ∙ ap (isSkipped frame) e)
+    kept-is = part-is k (r ∙ ap (isSkipped bits frame) e)
 
     pub part-call : m ≡ 23 → not k ≡ true → 1 ≡ part
     part-call f g = call-kept (eqb m 23) (eqb m 21) k (eq-eqb m 23 f) g ∙ kept-is
@@ -116,11 +117,11 @@ module _ (frame : ℕ) (bodies b : List ℕ) (i m : ℕ) (p : b ≡ bodyAt bodie
     part-skipped f = skipped (eqb m 23) (eqb m 21) k f ∙ kept-is
 
 -- the pushes before instruction k
-module _ (frame : ℕ) (bodies : List ℕ) (first k : ℕ) where
+module _ (bits frame : ℕ) (bodies : List ℕ) (first k : ℕ) where
   back-step : first < k
-      → pushesBack frame bodies first (k - first)
-      ≡ pick (isUnskipped frame bodies 23 (k - 1)) []
-      (pick (isUnskipped frame bodies 21 (k - 1)) ((k - 1) ∷ pushesBack frame bodies first (k - 1 - first)) (pushesBack frame bodies first (k - 1 - first)))
+      → pushesBack bits frame bodies first (k - first)
+      ≡ pick (isUnskipped bits frame bodies 23 (k - 1)) []
+      (pick (isUnskipped bits frame bodies 21 (k - 1)) ((k - 1) ∷ pushesBack bits frame bodies first (k - 1 - first)) (pushesBack bits frame bodies first (k - 1 - first)))
   unfolding pushesBack
   back-step h =
       let e : k - first ≡ suc (k - 1 - first) = omega arith in
@@ -128,17 +129,17 @@ module _ (frame : ℕ) (bodies : List ℕ) (first k : ℕ) where
       rw (e, f)
 
   module _ (h : Header) (s : List ℕ) (comma : Bool) where
-    pub back-none : k ≤ first → pushed h s comma (pushesBack frame bodies first (k - first)) ≡ []
+    pub back-none : k ≤ first → pushed h s comma (pushesBack bits frame bodies first (k - first)) ≡ []
     unfolding pushed pushesBack
     back-none l = let e : k - first ≡ 0 = omega arith in rw e
 
-    pub back-stop : (w : ℕ) → first < k → w ≡ pick (isUnskipped frame bodies 23 (k - 1)) 1 (pick (isUnskipped frame bodies 21 (k - 1)) 2 0) → w ≡ 1
-        → pushed h s comma (pushesBack frame bodies first (k - first)) ≡ []
+    pub back-stop : (w : ℕ) → first < k → w ≡ pick (isUnskipped bits frame bodies 23 (k - 1)) 1 (pick (isUnskipped bits frame bodies 21 (k - 1)) 2 0) → w ≡ 1
+        → pushed h s comma (pushesBack bits frame bodies first (k - first)) ≡ []
     unfolding pushed
     back-stop w l p q =
-        let rest = pushesBack frame bodies first (k - 1 - first) in
-        let call : isUnskipped frame bodies 23 (k - 1) ≡ true = sym (call-of (isUnskipped frame bodies 23 (k - 1)) (isUnskipped frame bodies 21 (k - 1)) w p) ∙ eq-eqb w 1 q in
-        let none : pick (isUnskipped frame bodies 23 (k - 1)) [] (pick (isUnskipped frame bodies 21 (k - 1)) ((k - 1) ∷ rest) rest) ≡ [] = rw call in
+        let rest = pushesBack bits frame bodies first (k - 1 - first) in
+        let call : isUnskipped bits frame bodies 23 (k - 1) ≡ true = sym (call-of (isUnskipped bits frame bodies 23 (k - 1)) (isUnskipped bits frame bodies 21 (k - 1)) w p) ∙ eq-eqb w 1 q in
+        let none : pick (isUnskipped bits frame bodies 23 (k - 1)) [] (pick (isUnskipped bits frame bodies 21 (k - 1)) ((k - 1) ∷ rest) rest) ≡ [] = rw call in
         ap (pushed h s comma) (back-step l ∙ none)
 
 pushed-front : (h : Header) (s : List ℕ) (comma kept : Bool) (j : ℕ) (is : List ℕ)
@@ -149,25 +150,25 @@ pushed-front h s true false j is = refl
 pushed-front h s false true j is = refl
 pushed-front h s false false j is = refl
 
-module _ (h : Header) (s : List ℕ) (frame : ℕ) (bodies : List ℕ) (e : bodies ≡ bodiesOf h s) (first k : ℕ) (l : first < k) (comma : Bool) (w : ℕ)
-    (p : w ≡ pick (isUnskipped frame bodies 23 (k - 1)) 1 (pick (isUnskipped frame bodies 21 (k - 1)) 2 0)) (q : w ≡ 1 → ⊥) (b : List ℕ) (t : b ≡ bodyAt bodies (k - 1)) where
-  pub back-turn : pushed h s comma (pushesBack frame bodies first (k - first))
-      ≡ pick (eqb w 2) (commaIf comma (opTokens h s b 0)) [] ++ pushed h s (comma || eqb w 2) (pushesBack frame bodies first (k - 1 - first))
+module _ (h : Header) (s : List ℕ) (bits frame : ℕ) (bodies : List ℕ) (e : bodies ≡ bodiesOf h s) (first k : ℕ) (l : first < k) (comma : Bool) (w : ℕ)
+    (p : w ≡ pick (isUnskipped bits frame bodies 23 (k - 1)) 1 (pick (isUnskipped bits frame bodies 21 (k - 1)) 2 0)) (q : w ≡ 1 → ⊥) (b : List ℕ) (t : b ≡ bodyAt bodies (k - 1)) where
+  pub back-turn : pushed h s comma (pushesBack bits frame bodies first (k - first))
+      ≡ pick (eqb w 2) (commaIf comma (opTokens h s b 0)) [] ++ pushed h s (comma || eqb w 2) (pushesBack bits frame bodies first (k - 1 - first))
   back-turn =
-      let rest = pushesBack frame bodies first (k - 1 - first) in
-      let call : isUnskipped frame bodies 23 (k - 1) ≡ false = sym (call-of (isUnskipped frame bodies 23 (k - 1)) (isUnskipped frame bodies 21 (k - 1)) w p) ∙ ne-eqb w 1 q in
-      let push : isUnskipped frame bodies 21 (k - 1) ≡ eqb w 2 = sym (push-of (isUnskipped frame bodies 23 (k - 1)) (isUnskipped frame bodies 21 (k - 1)) w p call) in
-      let front : pick (isUnskipped frame bodies 23 (k - 1)) [] (pick (isUnskipped frame bodies 21 (k - 1)) ((k - 1) ∷ rest) rest) ≡ pick (eqb w 2) ((k - 1) ∷ rest) rest = rw (call, push) in
+      let rest = pushesBack bits frame bodies first (k - 1 - first) in
+      let call : isUnskipped bits frame bodies 23 (k - 1) ≡ false = sym (call-of (isUnskipped bits frame bodies 23 (k - 1)) (isUnskipped bits frame bodies 21 (k - 1)) w p) ∙ ne-eqb w 1 q in
+      let push : isUnskipped bits frame bodies 21 (k - 1) ≡ eqb w 2 = sym (push-of (isUnskipped bits frame bodies 23 (k - 1)) (isUnskipped bits frame bodies 21 (k - 1)) w p call) in
+      let front : pick (isUnskipped bits frame bodies 23 (k - 1)) [] (pick (isUnskipped bits frame bodies 21 (k - 1)) ((k - 1) ∷ rest) rest) ≡ pick (eqb w 2) ((k - 1) ∷ rest) rest = rw (call, push) in
       let body : bodyOf h s (k - 1) ≡ b = sym (t ∙ ap (λ (x : List ℕ). bodyAt x (k - 1)) e) in
-      ap (pushed h s comma) (back-step frame bodies first k l ∙ front) ∙ pushed-front h s comma (eqb w 2) (k - 1) rest
+      ap (pushed h s comma) (back-step bits frame bodies first k l ∙ front) ∙ pushed-front h s comma (eqb w 2) (k - 1) rest
       ∙ ap (λ (x : List ℕ). pick (eqb w 2) (commaIf comma (opTokens h s x 0)) [] ++ pushed h s (comma || eqb w 2) rest) body
 
 -- which arguments, by the bits
 module _ (h : Header) (s : List ℕ) (first i mask : ℕ) where
-  pub by-pushes : h .bits ≡ 32 → pushed h s false (pushesBack (h .frame) (bodiesOf h s) first (i - first)) ≡ argumentTokens h s first i mask
+  pub by-pushes : passesRegisters (h .bits) ≡ false → pushed h s false (pushesBack (h .bits) (h .frame) (bodiesOf h s) first (i - first)) ≡ argumentTokens h s first i mask
   unfolding argumentTokens
-  by-pushes e = rw (eq-eqb (h .bits) 32 e)
+  by-pushes e = rw e
 
-  pub by-registers : (h .bits ≡ 32 → ⊥) → registerArguments (h .convention) mask ≡ argumentTokens h s first i mask
+  pub by-registers : passesRegisters (h .bits) ≡ true → registerArguments (h .convention) mask ≡ argumentTokens h s first i mask
   unfolding argumentTokens
-  by-registers e = rw (ne-eqb (h .bits) 32 e)
+  by-registers e = rw e

@@ -11,12 +11,13 @@ use lib.Bits.{bitAnd}
 use lib.Dec.{eqb}
 use lib.IntN.{pos}
 use Rattle.lists.specs.Choice.{pick}
+use Rattle.lists.specs.Signed.{signed}
 use Rattle.tokens.specs.Listing.{textOf}
 use Rattle.x86.specs.Words.{wordsOf, isOneOf, isWordOf}
 use Rattle.x86.specs.Mnemonics as mnemonic
 use Rattle.x86.specs.Mnemonics.{isBtOrImul}
 use Rattle.x86.specs.Conditions.{conditionNames, conditionName, among, negate, isRelation, relationAfterCmp, relationAfterTest, related, printsUnsigned}
-use Rattle.x86.specs.Flags.{Flags, signed, test, conditionHolds}
+use Rattle.x86.specs.Flags.{Flags, test, conditionHolds}
 use Rattle.x86.proofs.Rule.{flag-rule, rule}
 use Rattle.x86.proofs.Negate.{among-negated, named-turns}
 use Rattle.record.specs.declared.header.Header.{Header}

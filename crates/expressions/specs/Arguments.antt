@@ -8,6 +8,7 @@ use Rattle.lists.specs.Choice.{pick}
 use Rattle.tokens.specs.Token.{Token, punct}
 use Rattle.x86.specs.Mnemonics.{push, call}
 use Rattle.x86.specs.Registers.{fullRegister}
+use Rattle.x86.specs.Width.{passesRegisters}
 use Rattle.x86.specs.Conventions.{argumentRegisters, argumentCount, withWritten}
 use Rattle.record.specs.declared.header.Header.{Header}
 use Rattle.record.specs.Layout.{bodiesOf}
@@ -27,20 +28,20 @@ unfoldable pub listed : Bool → List ℕ → List Token
 listed comma [] = []
 listed comma (r ∷ rs) = commaIf comma (registerToken r ∷ listed true rs)
 
--- with bits 64: "Arguments run up to the last convention register written."
+-- in registers: "Arguments run up to the last convention register written."
 unfoldable pub registerArguments : ℕ → ℕ → List Token
 registerArguments convention mask = listed false (take (argumentCount convention mask) (argumentRegisters convention))
 
 -- instruction i has mnemonic m and is not skipped; the part given begins at the bodies
-unfoldable pub isUnskipped : ℕ → List ℕ → ℕ → ℕ → Bool
-isUnskipped frame bodies m i = eqb (mnemonicOf (bodyAt bodies i)) m && not (isSkipped frame (bodyAt bodies i))
+unfoldable pub isUnskipped : ℕ → ℕ → List ℕ → ℕ → ℕ → Bool
+isUnskipped bits frame bodies m i = eqb (mnemonicOf (bodyAt bodies i)) m && not (isSkipped bits frame (bodyAt bodies i))
 
--- with bits 32: of the n instructions from `first` on the pushes since the last call that is not silent, the last one first
-unfoldable pub pushesBack : ℕ → List ℕ → ℕ → ℕ → List ℕ
-pushesBack frame bodies first zero = []
-pushesBack frame bodies first (suc n) =
-    pick (isUnskipped frame bodies call (first + n)) []
-    (pick (isUnskipped frame bodies push (first + n)) ((first + n) ∷ pushesBack frame bodies first n) (pushesBack frame bodies first n))
+-- by pushes: of the n instructions from `first` on the pushes since the last call that is not silent, the last one first
+unfoldable pub pushesBack : ℕ → ℕ → List ℕ → ℕ → ℕ → List ℕ
+pushesBack bits frame bodies first zero = []
+pushesBack bits frame bodies first (suc n) =
+    pick (isUnskipped bits frame bodies call (first + n)) []
+    (pick (isUnskipped bits frame bodies push (first + n)) ((first + n) ∷ pushesBack bits frame bodies first n) (pushesBack bits frame bodies first n))
 
 module _ (h : Header) (s : List ℕ) where
   unfoldable pub pushed : Bool → List ℕ → List Token
@@ -50,7 +51,7 @@ module _ (h : Header) (s : List ℕ) where
   -- the arguments at instruction i of a range whose first instruction is `first`
   unfoldable pub argumentTokens : ℕ → ℕ → ℕ → List Token
   argumentTokens first i mask =
-      pick (eqb (h .bits) 32) (pushed false (pushesBack (h .frame) (bodiesOf h s) first (i - first))) (registerArguments (h .convention) mask)
+      pick (passesRegisters (h .bits)) (registerArguments (h .convention) mask) (pushed false (pushesBack (h .bits) (h .frame) (bodiesOf h s) first (i - first)))
 
 -- the registers written once an instruction's line is there: a call clears them, any other adds its first operand's full register
 unfoldable pub writtenAfter : ℕ → List ℕ → ℕ

@@ -7,13 +7,14 @@ use mathlib.Core.List.{List, [], _∷_, _++_}
 use lib.Bits.{bitAnd}
 use lib.IntN.{pos}
 use Rattle.lists.specs.Choice.{pick}
+use Rattle.lists.specs.Signed.{signed}
 use Rattle.tokens.specs.Token.{Token}
 use Rattle.tokens.specs.Listing.{textOf}
 use Rattle.x86.specs.Words.{isOneOf}
 use Rattle.x86.specs.Mnemonics as mnemonic
 use Rattle.x86.specs.Mnemonics.{isBtOrImul}
 use Rattle.x86.specs.Conditions.{related, among, negate}
-use Rattle.x86.specs.Flags.{signed, cmp, test, conditionHolds}
+use Rattle.x86.specs.Flags.{cmp, test, conditionHolds}
 use Rattle.x86.specs.FlagRule.{readFor}
 use Rattle.record.specs.declared.header.Header.{Header}
 use Rattle.record.specs.declared.search.Found.the-variants.{At}

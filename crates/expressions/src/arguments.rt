@@ -17,6 +17,7 @@ use x86::conventions::argument_count;
 use x86::conventions::argument_register;
 use x86::conventions::with_written;
 use x86::registers::full_register;
+use x86::width::passes_registers;
 ghost use mathlib.Core.Path.{_≡_};
 ghost use Rattle.x86.specs.Table.{isaBytes};
 ghost use mathlib.Core.Bool.{false};
@@ -50,15 +51,15 @@ pub fn written_after(isa: &[u8], mask: u16, body: &[u8]) -> u16
 }
 
 // What instruction i is to the pushes of a call behind it: 1 a call that ends them, 2 one of them, 0 neither, as most are.
-fn push_part(tables: &[u8], bodies: &[u8], frame: u16, i: u16) -> u8
+fn push_part(tables: &[u8], bodies: &[u8], bits: u16, frame: u16, i: u16) -> u8
     requires { ⌜ now tables ≡ tableBytes ⌝ }
-    ensures { λ r. ⌜ r ≡ pick (isUnskipped frame (now (bodies .entry)) call i) 1 (pick (isUnskipped frame (now (bodies .entry)) push i) 2 0) ⌝ }
+    ensures { λ r. ⌜ r ≡ pick (isUnskipped bits frame (now (bodies .entry)) call i) 1 (pick (isUnskipped bits frame (now (bodies .entry)) push i) 2 0) ⌝ }
 {
     let m = mnemonic(body_at(bodies, i));
     if (m == 23) | (m == 21) {
         let isa = isa_of(tables);
         let body = body_at(bodies, i);
-        if !is_skipped(isa, frame, body) {
+        if !is_skipped(isa, bits, frame, body) {
             return if m == 23 { 1 } else { 2 };
         }
     }
@@ -129,18 +130,19 @@ fn code_pushed(
     }
 }
 
-// With bits 32: the pushes since the last call that is not silent, the last one first.
+// The pushes since the last call that is not silent, the last one first.
 fn pushed_arguments(codes: &mut [u64], tables: &[u8], rec: &[u8], h: Header, first: u16, i: u16)
     requires { ⌜ Lent (now codes) (now tables) h (now rec) ⌝ }
-    ensures { λ _. ⌜ Coded (now (tables .entry)) (now (rec .entry)) (now (codes .entry)) (now (codes .exit)) (pushed h (now (rec .entry)) false (pushesBack (h .frame) (bodiesOf h (now (rec .entry))) first (i - first))) ⌝ }
+    ensures { λ _. ⌜ Coded (now (tables .entry)) (now (rec .entry)) (now (codes .entry)) (now (codes .exit)) (pushed h (now (rec .entry)) false (pushesBack (h .bits) (h .frame) (bodiesOf h (now (rec .entry))) first (i - first))) ⌝ }
 {
     let bodies = from(rec, bodies_at(h));
+    let bits = h.bits;
     let frame = h.frame;
     let mut comma = false;
     let mut k = i;
     while first < k {
         let j = k - 1;
-        let part = push_part(tables, bodies, frame, j);
+        let part = push_part(tables, bodies, bits, frame, j);
         if part == 1 {
             return;
         }
@@ -164,8 +166,8 @@ pub fn arguments(
     requires { ⌜ Lent (now codes) (now tables) h (now rec) ⌝ }
     ensures { λ _. ⌜ Coded (now (tables .entry)) (now (rec .entry)) (now (codes .entry)) (now (codes .exit)) (argumentTokens h (now (rec .entry)) first i mask) ⌝ }
 {
-    if h.bits == 32 {
-        return pushed_arguments(codes, tables, rec, h, first, i);
+    if passes_registers(h.bits) {
+        return register_arguments(codes, tables, h.convention, mask);
     }
-    register_arguments(codes, tables, h.convention, mask)
+    pushed_arguments(codes, tables, rec, h, first, i)
 }

@@ -29,22 +29,22 @@ class-length t e = ap length e
 other : (m k : ℕ) {a b : ℕ} → silentClass m ≡ a → silentClass k ≡ b → (a ≡ b → ⊥) → eqb m k ≡ false
 other m k p q d = ne-eqb m k (λ e. d (sym p ∙ ap silentClass e ∙ q))
 
-module _ (frame : ℕ) (b : List ℕ) where
+module _ (bits frame : ℕ) (b : List ℕ) where
   abbrev m : ℕ
   m = mnemonicOf b
 
-  padding-silent : padding m ≡ true → isSilentItself frame b ≡ true
+  padding-silent : padding m ≡ true → isSilentItself bits frame b ≡ true
   unfolding isSilentItself isPrologueNoise
   padding-silent e =
       let l : 41 ≤ m = leb-true 41 m (both-yes (leb 41 m) (leb m 45) e .0) in
       simp (ne-eqb m 21 (λ q. omega arith), ne-eqb m 22 (λ q. omega arith), ne-eqb m 10 (λ q. omega arith), ne-eqb m 9 (λ q. omega arith), ne-eqb m 1 (λ q. omega arith), ne-eqb m 5 (λ q. omega arith), e, or-true)
 
   -- class 1
-  pub class-silent : silentClass m ≡ 1 → isSilentItself frame b ≡ true
+  pub class-silent : silentClass m ≡ 1 → isSilentItself bits frame b ≡ true
   unfolding silentClass isSilentItself
   class-silent h = go (folded m) refl (padding m) refl (isOneOf m (1 ∷ 5 ∷ 9 ∷ 10 ∷ 22 ∷ 25 ∷ [])) h
     where
-      go : (f : Bool) → folded m ≡ f → (p : Bool) → padding m ≡ p → (o : Bool) → _≡_ {A = ℕ} (pick (f || p) 1 (pick o 2 0)) 1 → isSilentItself frame b ≡ true
+      go : (f : Bool) → folded m ≡ f → (p : Bool) → padding m ≡ p → (o : Bool) → _≡_ {A = ℕ} (pick (f || p) 1 (pick o 2 0)) 1 → isSilentItself bits frame b ≡ true
       go true e p q o h = simp (e, or-true)
       go false e true q o h = padding-silent q
       go false e false q true h = absurd (omega arith)
@@ -56,7 +56,7 @@ module _ (frame : ℕ) (b : List ℕ) where
   padding-class false q h = q
 
   -- class 0
-  pub class-shown : silentClass m ≡ 0 → eqb (skipMark b) 1 ≡ false → isSilentItself frame b ≡ false
+  pub class-shown : silentClass m ≡ 0 → eqb (skipMark b) 1 ≡ false → isSilentItself bits frame b ≡ false
   unfolding silentClass isSilentItself isPrologueNoise
   class-shown h k = simp (
     k,

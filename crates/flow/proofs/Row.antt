@@ -22,7 +22,7 @@ array s p w v a b = b ∙ ap (λ (k : ℕ). drop k s) a
 
 module _ (h : Header) (s : List ℕ) where
   pub shown-stored : (i : ℕ) (bodies body l l′ : List ℕ) (z v : ℕ) → bodies ≡ bodiesOf h s → z ≡ i → body ≡ bodyAt bodies i
-      → v ≡ pick (isSilentItself (h .frame) body) 0 1 → l′ ≡ set l z v → l′ ≡ put i (shownRow h s i) l
+      → v ≡ pick (isSilentItself (h .bits) (h .frame) body) 0 1 → l′ ≡ set l z v → l′ ≡ put i (shownRow h s i) l
   unfolding shownRow
   shown-stored i bodies body l l′ z v a b c d e = e ∙ rw (d, c, a, b, put-cons, put-none)
 

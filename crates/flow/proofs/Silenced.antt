@@ -93,7 +93,7 @@ module _ (h : Header) (s : List ℕ) (k : ℕ) (below : k < h .blocks) where
     body = bodyIn h s i
 
     abbrev marked : Bool
-    marked = isSkipped (h .frame) body || folded (mnemonicOf body)
+    marked = isSkipped (h .bits) (h .frame) body || folded (mnemonicOf body)
 
     not-shown : not (isShown (shownRows h s) i) ≡ (marked || isDirectJmp body)
     unfolding isSilentItself

@@ -91,11 +91,11 @@ module _ (h : Header) (s : List ℕ) where
     edge-kind = edge-at 1 (omega arith)
 
   module _ (i : ℕ) (below : i < h .instructions) where
-    shown-at : getD (shownRows h s) i 0 ≡ pick (isSilentItself (h .frame) (bodyAt (bodiesOf h s) i)) 0 1
+    shown-at : getD (shownRows h s) i 0 ≡ pick (isSilentItself (h .bits) (h .frame) (bodyAt (bodiesOf h s) i)) 0 1
     unfolding shownRows shownRow
     shown-at =
         let e : i ≡ 1 * i + 0 = omega arith in
         ap (λ (j : ℕ). getD (shownRows h s) j 0) e ∙ row-at (shownRow h s) 1 (λ k. refl) (h .instructions) i 0 below (omega arith)
 
-    pub is-shown : isShown (shownRows h s) i ≡ not (isSilentItself (h .frame) (bodyAt (bodiesOf h s) i))
-    is-shown = ap (λ (x : ℕ). eqb x 1) shown-at ∙ pick-shown (isSilentItself (h .frame) (bodyAt (bodiesOf h s) i))
+    pub is-shown : isShown (shownRows h s) i ≡ not (isSilentItself (h .bits) (h .frame) (bodyAt (bodiesOf h s) i))
+    is-shown = ap (λ (x : ℕ). eqb x 1) shown-at ∙ pick-shown (isSilentItself (h .bits) (h .frame) (bodyAt (bodiesOf h s) i))

@@ -64,7 +64,7 @@ module _ (h : Header) (s : List ℕ) where
 
   -- one number an instruction: 1 if it is not silent by itself
   unfoldable pub shownRow : ℕ → List ℕ
-  shownRow i = pick (isSilentItself (h .frame) (bodyAt (bodiesOf h s) i)) 0 1 ∷ []
+  shownRow i = pick (isSilentItself (h .bits) (h .frame) (bodyAt (bodiesOf h s) i)) 0 1 ∷ []
 
   unfoldable pub shownRows : List ℕ
   shownRows = rowsFrom shownRow 0 (h .instructions)

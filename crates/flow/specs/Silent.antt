@@ -5,7 +5,8 @@ use mathlib.Core.List.{List, [], _∷_}
 use lib.Dec.{eqb, leb}
 use Rattle.lists.specs.Choice.{pick}
 use Rattle.x86.specs.Words.{isOneOf}
-use Rattle.x86.specs.Registers.{isStackPointer, calleeSaved}
+use Rattle.x86.specs.Registers.{calleeSaved}
+use Rattle.x86.specs.Width.{isStackPointer}
 use Rattle.x86.specs.Mnemonics.{mov, lea, add, sub, push, pop, jmp, cdq, cqo, cdqe, cwde, cmp, test, leave, endbr32}
 use Rattle.record.specs.Body.{mnemonicOf, conditionOf, skipMark, operandKind, operandRegister}
 
@@ -21,20 +22,20 @@ abbrev pub registerFirst : List ℕ → Bool
 registerFirst b = eqb (operandKind b 0) 0
 
 -- a copy of the stack pointer to the frame register, "equal to nothing" where it is 0, or a write of the stack pointer
-abbrev pub movesFrame : ℕ → List ℕ → Bool
-movesFrame frame b =
-    (not (eqb frame 0) && eqb (operandRegister b 0) frame && eqb (operandKind b 1) 0 && isStackPointer (operandRegister b 1))
-    || isStackPointer (operandRegister b 0)
+abbrev pub movesFrame : ℕ → ℕ → List ℕ → Bool
+movesFrame bits frame b =
+    (not (eqb frame 0) && eqb (operandRegister b 0) frame && eqb (operandKind b 1) 0 && isStackPointer bits (operandRegister b 1))
+    || isStackPointer bits (operandRegister b 0)
 
 -- "prologue noise (`is_prologue_noise` says so)": saves and restores of the registers that a callee saves, moves of the stack
 -- pointer, and padding
-unfoldable pub isPrologueNoise : ℕ → List ℕ → Bool
-isPrologueNoise frame b =
+unfoldable pub isPrologueNoise : ℕ → ℕ → List ℕ → Bool
+isPrologueNoise bits frame b =
     let m = mnemonicOf b in
     pick (eqb m push || eqb m pop) (registerFirst b && calleeSaved (operandRegister b 0))
-    (pick (eqb m sub || eqb m add) (registerFirst b && isStackPointer (operandRegister b 0) && not (eqb (operandKind b 1) 0))
-    (pick (eqb m mov) (registerFirst b && movesFrame frame b)
-    (pick (eqb m lea) (registerFirst b && isStackPointer (operandRegister b 0))
+    (pick (eqb m sub || eqb m add) (registerFirst b && isStackPointer bits (operandRegister b 0) && not (eqb (operandKind b 1) 0))
+    (pick (eqb m mov) (registerFirst b && movesFrame bits frame b)
+    (pick (eqb m lea) (registerFirst b && isStackPointer bits (operandRegister b 0))
     (padding m))))
 
 -- a jmp to a near branch
@@ -42,13 +43,13 @@ abbrev pub isDirectJmp : List ℕ → Bool
 isDirectJmp b = eqb (mnemonicOf b) jmp && eqb (operandKind b 0) 2
 
 -- "skip-marked or prologue noise"
-abbrev pub isSkipped : ℕ → List ℕ → Bool
-isSkipped frame b = eqb (skipMark b) 1 || isPrologueNoise frame b
+abbrev pub isSkipped : ℕ → ℕ → List ℕ → Bool
+isSkipped bits frame b = eqb (skipMark b) 1 || isPrologueNoise bits frame b
 
 -- "Silent: skip-marked or prologue noise ..; cmp, test, push, cdq, cqo, cdqe, cwde; a direct jmp .."; the structure says which
 -- closing branch, loop test or last direct jmp has a line all the same
-unfoldable pub isSilentItself : ℕ → List ℕ → Bool
-isSilentItself frame b = isSkipped frame b || folded (mnemonicOf b) || isDirectJmp b
+unfoldable pub isSilentItself : ℕ → ℕ → List ℕ → Bool
+isSilentItself bits frame b = isSkipped bits frame b || folded (mnemonicOf b) || isDirectJmp b
 
 -- how a block with this last instruction ends: 1 with a condition but no near branch, 2 with a condition and a near branch as
 -- first operand, 3 with a direct jmp, 0 otherwise

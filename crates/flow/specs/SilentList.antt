@@ -57,7 +57,7 @@ module _ (h : Header) (s : List ℕ) where
   -- isn't last, .."
   unfoldable pub isSilent : Context → ℕ → ℕ → Bool
   isSilent c k i =
-      isSilentJmp c k i || (not (isSpared c k i) && (isSkipped (h .frame) (bodyIn i) || folded (mnemonicOf (bodyIn i))))
+      isSilentJmp c k i || (not (isSpared c k i) && (isSkipped (h .bits) (h .frame) (bodyIn i) || folded (mnemonicOf (bodyIn i))))
 
   -- of n instructions of block k from i on, those that are not silent
   unfoldable pub unsilent : Context → ℕ → ℕ → ℕ → List ℕ

@@ -174,9 +174,9 @@ pub fn edge_rows(rec: &[u8], h: Header, out: &mut [u16])
 }
 
 // 1 for an instruction that is not silent by itself: most are told by their mnemonic.
-fn shown_of(isa: &[u8], classes: &[u8], frame: u16, body: &[u8]) -> u8
+fn shown_of(isa: &[u8], classes: &[u8], bits: u16, frame: u16, body: &[u8]) -> u8
     requires { ⌜ (now isa ≡ isaBytes) × (now classes ≡ classTable) ⌝ }
-    ensures { λ r. ⌜ r ≡ pick (isSilentItself frame (now (body .entry))) 0 1 ⌝ }
+    ensures { λ r. ⌜ r ≡ pick (isSilentItself bits frame (now (body .entry))) 0 1 ⌝ }
 {
     if skip_mark(body) == 1 {
         return 0;
@@ -188,7 +188,7 @@ fn shown_of(isa: &[u8], classes: &[u8], frame: u16, body: &[u8]) -> u8
     if class == 1 {
         return 0;
     }
-    if is_silent_itself(isa, frame, body) {
+    if is_silent_itself(isa, bits, frame, body) {
         return 0;
     }
     1
@@ -206,7 +206,7 @@ pub fn shown_rows(isa: &[u8], rec: &[u8], h: Header, out: &mut [u8])
         store(
             out,
             size(i),
-            shown_of(isa, classes, h.frame, body_at(bodies, i)),
+            shown_of(isa, classes, h.bits, h.frame, body_at(bodies, i)),
         );
         i += 1;
     }

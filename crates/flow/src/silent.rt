@@ -6,7 +6,7 @@ use record::body::op_kind;
 use record::body::op_register;
 use record::body::skip_mark;
 use x86::registers::callee_saved;
-use x86::registers::is_stack_pointer;
+use x86::width::is_stack_pointer;
 ghost use mathlib.Core.Path.{_≡_};
 ghost use mathlib.Core.Bool.{_||_};
 ghost use lib.Dec.{eqb};
@@ -42,21 +42,21 @@ fn register_first(body: &[u8]) -> bool
 }
 
 // A copy of the stack pointer to the frame register, if there is one, or a write of the stack pointer.
-fn moves_frame(frame: u16, body: &[u8]) -> bool
-    ensures { λ r. ⌜ r ≡ movesFrame frame (now (body .entry)) ⌝ }
+fn moves_frame(bits: u16, frame: u16, body: &[u8]) -> bool
+    ensures { λ r. ⌜ r ≡ movesFrame bits frame (now (body .entry)) ⌝ }
 {
     let to = op_register(body, 0);
     ((frame != 0)
         & (to as u16 == frame)
         & (op_kind(body, 1) == 0)
-        & is_stack_pointer(op_register(body, 1)))
-        | is_stack_pointer(to)
+        & is_stack_pointer(bits, op_register(body, 1)))
+        | is_stack_pointer(bits, to)
 }
 
 // Saves and restores of the registers that a callee saves, moves of the stack pointer, and padding.
-pub fn is_prologue_noise(isa: &[u8], frame: u16, body: &[u8]) -> bool
+pub fn is_prologue_noise(isa: &[u8], bits: u16, frame: u16, body: &[u8]) -> bool
     requires { ⌜ now isa ≡ isaBytes ⌝ }
-    ensures { λ r. ⌜ r ≡ isPrologueNoise frame (now (body .entry)) ⌝ }
+    ensures { λ r. ⌜ r ≡ isPrologueNoise bits frame (now (body .entry)) ⌝ }
 {
     let m = mnemonic(body);
     if either(m, 21, 22) {
@@ -64,14 +64,14 @@ pub fn is_prologue_noise(isa: &[u8], frame: u16, body: &[u8]) -> bool
     }
     if either(m, 10, 9) {
         return register_first(body)
-            & is_stack_pointer(op_register(body, 0))
+            & is_stack_pointer(bits, op_register(body, 0))
             & (op_kind(body, 1) != 0);
     }
     if m == 1 {
-        return register_first(body) & moves_frame(frame, body);
+        return register_first(body) & moves_frame(bits, frame, body);
     }
     if m == 5 {
-        return register_first(body) & is_stack_pointer(op_register(body, 0));
+        return register_first(body) & is_stack_pointer(bits, op_register(body, 0));
     }
     is_padding(m)
 }
@@ -82,18 +82,18 @@ pub fn is_direct_jmp(body: &[u8]) -> bool
     (mnemonic(body) == 25) & (op_kind(body, 0) == 2)
 }
 
-pub fn is_skipped(isa: &[u8], frame: u16, body: &[u8]) -> bool
+pub fn is_skipped(isa: &[u8], bits: u16, frame: u16, body: &[u8]) -> bool
     requires { ⌜ now isa ≡ isaBytes ⌝ }
-    ensures { λ r. ⌜ r ≡ isSkipped frame (now (body .entry)) ⌝ }
+    ensures { λ r. ⌜ r ≡ isSkipped bits frame (now (body .entry)) ⌝ }
 {
-    (skip_mark(body) == 1) | is_prologue_noise(isa, frame, body)
+    (skip_mark(body) == 1) | is_prologue_noise(isa, bits, frame, body)
 }
 
-pub fn is_silent_itself(isa: &[u8], frame: u16, body: &[u8]) -> bool
+pub fn is_silent_itself(isa: &[u8], bits: u16, frame: u16, body: &[u8]) -> bool
     requires { ⌜ now isa ≡ isaBytes ⌝ }
-    ensures { λ r. ⌜ r ≡ isSilentItself frame (now (body .entry)) ⌝ }
+    ensures { λ r. ⌜ r ≡ isSilentItself bits frame (now (body .entry)) ⌝ }
 {
-    is_skipped(isa, frame, body) | is_folded(mnemonic(body)) | is_direct_jmp(body)
+    is_skipped(isa, bits, frame, body) | is_folded(mnemonic(body)) | is_direct_jmp(body)
 }
 
 // By mnemonic: 1 silent whatever its operands are, 2 where these decide, 0 shown unless marked.

@@ -5,7 +5,7 @@ use mathlib.Core.Bool.{Bool, true, false, _&&_, _||_, false≢true}
 use mathlib.Core.List.{List, [], _∷_, _++_, map, append-assoc}
 use Prim.Native.Nat.{ℕ, _-_}
 use native.Mathlib.Omega.{arith}
-use borrow.Author.Tests.{eqb-true, ne-eqb}
+use borrow.Author.Tests.{eqb-true, eq-eqb}
 use lib.Dec.{eqb}
 use lib.ListN.{length, take}
 use Rattle.lists.specs.Choice.{pick}
@@ -159,7 +159,7 @@ module _ (h : Header) (s : List ℕ) where
       → UpToLast (h .convention) (sinceCall (shown h s before)) (argumentTokens h s range i (maskBehind 0 before))
   unfolding argumentTokens
   by-register n range i before =
-      rw (ne-eqb (h .bits) 32 (λ e. omega (arith, n, e)), lines-behind 0 before) (up-to-last-written (h .convention) (shown h s before))
+      rw (eq-eqb (h .bits) 64 n, lines-behind 0 before) (up-to-last-written (h .convention) (shown h s before))
 
   arguments-shown : h .bits ≡ 64 → (range : ℕ) (before : List Line) (l : Line) → endsInCall (l .what) (bodyOf h s (l .at)) ≡ true
       → ArgumentsShown h s before (join (lineTokens h s range (maskBehind 0 before) l))

@@ -17,13 +17,14 @@ use Rattle.tokens.specs.Listing.{textOf, bytesOf, pushesOf}
 use Rattle.tokens.proofs.Bounds.{prefixed-short}
 use Rattle.x86.specs.Mnemonics.{mnemonicNames, mnemonicName}
 use Rattle.x86.specs.Conditions.{negate}
+use Rattle.x86.specs.Width.{returnRegister}
 use Rattle.record.specs.declared.header.Header.{Header}
 use Rattle.record.specs.Layout.{startsAt, startsOf}
 use Rattle.record.specs.Body.{mnemonicOf, conditionOf, operandCount, operandAt, nameOf}
 use Rattle.record.specs.declared.search.Found.{Found}
 use Rattle.record.specs.declared.search.Found.the-variants.{At, Nothing}
 use Rattle.operand.specs.Names.{entryAt, nameOrAt, nameOr}
-use Rattle.operand.proofs.Bounds.{AllBytes, bytes-drop, u64-small, upTo, Within, nothing, more, one, both, either, number-within, name-within, mem-within}
+use Rattle.operand.proofs.Bounds.{AllBytes, bytes-drop, u64-small, upTo, Within, nothing, more, one, both, register-within, number-within, name-within, mem-within}
 use Rattle.operand.proofs.Choices.{pick-le}
 use Rattle.structure.specs.Plan.{Line}
 use Rattle.structure.specs.Placed.{Placed}
@@ -85,7 +86,7 @@ most negated = 1002
 most arguments = 244500
 most (target w) = 486 + length (w .bytes)
 most start = 46
-most accumulator = 3
+most accumulator = 5
 most assembly = 124720
 
 abbrev mostOf : List Piece → ℕ
@@ -146,7 +147,7 @@ module _ (h : Header) (s : List ℕ) (ss : AllBytes s) (shift : natAbs (h .shift
   piece-within c l start =
       more _ _ (one _ 46 (prefixed-short (symbol "loc_") _ (omega arith) (u64-small (startsOf h s) (bytes-drop startsAt s ss) (8 * c .place)))) (omega arith) (omega arith)
   piece-within c l accumulator =
-      more _ _ (either (λ (t : Token). Within 1 3 (t ∷ [])) (eqb (h .bits) 64) _ _ (one _ 3 (omega arith)) (one _ 3 (omega arith))) (omega arith) (omega arith)
+      more _ _ (register-within (returnRegister (h .bits))) (omega arith) (omega arith)
   piece-within c l assembly = more _ _ (assembly-within (c .at)) (omega arith) (omega arith)
 
   pieces-within : (c : Site) → c .at ≤ 500 → (ps : List Piece) → Within (mostTokensOf ps) (mostOf ps) (piecesTokens h s c ps)

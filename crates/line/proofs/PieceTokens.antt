@@ -8,10 +8,11 @@ use native.Mathlib.Numerals.{add-one}
 use native.Mathlib.Omega.{arith}
 use lib.ListN.{length, drop, getD, drop-of-length-le, List·getD-eq-default}
 use lib.Seq.{drop-cons}
-use borrow.Author.Tests.{lt-ltb, le-ltb, ne-eqb}
+use borrow.Author.Tests.{lt-ltb, le-ltb}
 use Rattle.tokens.specs.Token.{register, symbol}
 use Rattle.tokens.specs.Words.{wordToken, words, prefixed}
 use Rattle.x86.specs.Registers.{registerName, registerNames}
+use Rattle.x86.specs.Width.{returnRegister}
 use Rattle.x86.specs.Conditions.{negate}
 use Rattle.record.specs.declared.header.Header.{Header}
 use Rattle.record.specs.Layout.{startsOf}
@@ -25,7 +26,7 @@ use Rattle.expressions.specs.Arguments.{argumentTokens}
 use Rattle.line.specs.declared.pieces.Site.{Site}
 use Rattle.line.specs.Forms.Piece.{zeros}
 use Rattle.line.specs.Codes.{specials, pieceOf, codesOf}
-use Rattle.line.specs.Print.{accumulatorToken, assemblyTokens, pieceTokens, piecesTokens}
+use Rattle.line.specs.Print.{assemblyTokens, pieceTokens, piecesTokens}
 
 rax : registerToken 0x50 ≡ register "rax"
 unfolding registerName registerNames
@@ -46,12 +47,6 @@ loc-word = refl
 sub-word : wordToken 95 ≡ symbol "sub_"
 unfolding wordToken words
 sub-word = refl
-
-pub is-rax : (bits : ℕ) → bits ≡ 64 → registerToken 0x50 ∷ [] ≡ accumulatorToken bits ∷ []
-is-rax bits e = rw (e, rax)
-
-pub is-eax : (bits : ℕ) → (bits ≡ 64 → ⊥) → registerToken 0x40 ∷ [] ≡ accumulatorToken bits ∷ []
-is-eax bits e = rw (ne-eqb bits 64 e, eax)
 
 module _ (h : Header) (s : List ℕ) (site : Site) (b : ℕ) where
   pub is-word : b < 102 → wordToken b ∷ [] ≡ pieceTokens h s site (pieceOf b)
@@ -74,7 +69,7 @@ module _ (h : Header) (s : List ℕ) (site : Site) (b : ℕ) where
   unfolding pieceOf pieceTokens
   is-start l v p q e = rw (q, p, e, loc-word)
 
-  pub is-accumulator : b ≡ 145 → accumulatorToken (h .bits) ∷ [] ≡ pieceTokens h s site (pieceOf b)
+  pub is-accumulator : b ≡ 145 → registerToken (returnRegister (h .bits)) ∷ [] ≡ pieceTokens h s site (pieceOf b)
   unfolding pieceOf pieceTokens
   is-accumulator e = rw e
 

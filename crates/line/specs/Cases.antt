@@ -19,6 +19,7 @@ use Rattle.tokens.specs.Token.{Token, token, punct, plainText, keyword, registe
 use Rattle.tokens.specs.Words.{prefixed}
 use Rattle.tokens.specs.Listing.{run, join}
 use Rattle.x86.specs.Registers.{registerNames, registerName, registerExists}
+use Rattle.x86.specs.Width.{isStackPointer}
 use Rattle.x86.specs.Mnemonics.{mov, lea, add, dec, cmp, mnemonicNames, mnemonicName, writesFlags}
 use Rattle.x86.specs.Conditions.{conditionNames, conditionName, operatorText, relationAfterCmp, relationAfterOther, printsUnsigned}
 use Rattle.x86.specs.Sizes.{sizeTypes, sizeType}
@@ -242,7 +243,7 @@ hex l (suc k) v h =
     ]
 
 pub all-print : map answered cases ≡ map (λ (c : Case). (0, c .expected)) cases
-unfolding cases flatten flatMap headerOf firstNo sizesNo blocksNo contentsNo rangeNo marksAsked startsAsked edgeKindsAsked bodiesAsked atlasAsked spansAsked marksOk startsDiffer startIsNew edgeKindsOk bodiesOk bodyOk fixedOk operandsOk operandOk isName isZeros registerExists atlasOk entriesOk textsOk textOk spansOk join run printed lineTokens piecesTokens rowOf insnForm plainForm recordPlan blockRows edgeRows edgeRow shownRows shownRow rowsFrom blockRow firstInstruction firstEdge blockEnding blockBranch endingOf placeOf findFrom isSilentItself isPrologueNoise rangeLines treeLines treeOf treeGo shapeAt lastLoop lastFrom closesLoop hasEdge endingIn regionAt opensRegion plainLines shownLines bodyCount closingLines relationAfterOther pieceTokens opTokens immediate immediateNumber signedRead memTokens memExpr addressExpr displacement typeWord sizeType sizeTypes slotToken isSlot slotNumber slotBase nameOr entryAt entryToken textStart inSpan prefixed numText sign sizeText hexOf digit registerName registerNames literalText opening closing escapes escape conditionTokens flagWriter afterWriter writesFlags mnemonicName mnemonicNames conditionName conditionNames operatorText relationAfterCmp printsUnsigned
+unfolding cases flatten flatMap headerOf firstNo sizesNo blocksNo contentsNo rangeNo marksAsked startsAsked edgeKindsAsked bodiesAsked atlasAsked spansAsked marksOk startsDiffer startIsNew edgeKindsOk bodiesOk bodyOk fixedOk operandsOk operandOk isName isZeros registerExists atlasOk entriesOk textsOk textOk spansOk join run printed lineTokens piecesTokens rowOf insnForm plainForm recordPlan blockRows edgeRows edgeRow shownRows shownRow rowsFrom blockRow firstInstruction firstEdge blockEnding blockBranch endingOf placeOf findFrom isSilentItself isPrologueNoise isStackPointer rangeLines treeLines treeOf treeGo shapeAt lastLoop lastFrom closesLoop hasEdge endingIn regionAt opensRegion plainLines shownLines bodyCount closingLines relationAfterOther pieceTokens opTokens immediate immediateNumber signedRead memTokens memExpr addressExpr displacement typeWord sizeType sizeTypes slotToken isSlot slotNumber slotBase nameOr entryAt entryToken textStart inSpan prefixed numText sign sizeText hexOf digit registerName registerNames literalText opening closing escapes escape conditionTokens flagWriter afterWriter writesFlags mnemonicName mnemonicNames conditionName conditionNames operatorText relationAfterCmp printsUnsigned
 all-print =
     rw (
       hex false 0 10 (omega arith),

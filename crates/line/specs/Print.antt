@@ -6,15 +6,16 @@ use lib.Dec.{eqb}
 use lib.ListN.{take}
 use Rattle.lists.specs.Choice.{pick}
 use Rattle.lists.specs.Bytes.{u8At}
-use Rattle.tokens.specs.Token.{Token, token, plainText, register, symbol, asText}
+use Rattle.tokens.specs.Token.{Token, token, plainText, symbol, asText}
 use Rattle.tokens.specs.Words.{prefixed}
 use Rattle.x86.specs.Mnemonics.{mnemonicName}
 use Rattle.x86.specs.Conditions.{negate}
+use Rattle.x86.specs.Width.{returnRegister}
 use Rattle.record.specs.declared.header.Header.{Header}
 use Rattle.record.specs.Layout.{startsOf}
 use Rattle.record.specs.Blocks.{startAt}
 use Rattle.record.specs.Body.{mnemonicOf, conditionOf, operandCount, operandNumber, nameOf}
-use Rattle.operand.specs.Memory.{number, memTokens}
+use Rattle.operand.specs.Memory.{registerToken, number, memTokens}
 use Rattle.operand.specs.Names.{nameOr}
 use Rattle.operand.specs.Operand.{opTokens}
 use Rattle.cfg.specs.Graph.{firstIn}
@@ -40,10 +41,6 @@ nameLength n = lengthFrom n 0 24
 unfoldable pub insnName : List ℕ → List ℕ
 insnName b = pick (eqb (mnemonicOf b) 0) (take (nameLength (nameOf b)) (nameOf b)) (mnemonicName (mnemonicOf b))
 
--- rax or eax
-abbrev pub accumulatorToken : ℕ → Token
-accumulatorToken bits = pick (eqb bits 64) (register "rax") (register "eax")
-
 module _ (h : Header) (s : List ℕ) where
   -- `__asm`: the operands with commas between
   unfoldable pub assembled : List ℕ → Bool → ℕ → ℕ → List Token
@@ -65,7 +62,7 @@ module _ (h : Header) (s : List ℕ) where
   pieceTokens c arguments = argumentTokens h s (c .range) (c .at) (c .written)
   pieceTokens c (target w) = nameOr h s (operandNumber (bodyOf h s (c .at)) 0) w ∷ []
   pieceTokens c start = prefixed (symbol "loc_") (startAt (startsOf h s) (c .place)) ∷ []
-  pieceTokens c accumulator = accumulatorToken (h .bits) ∷ []
+  pieceTokens c accumulator = registerToken (returnRegister (h .bits)) ∷ []
   pieceTokens c assembly = assemblyTokens (bodyOf h s (c .at))
 
   unfoldable pub piecesTokens : Site → List Piece → List Token

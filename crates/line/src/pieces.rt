@@ -22,6 +22,7 @@ use record::header::Header;
 use tokens::words::LOC;
 use tokens::words::SUB;
 use x86::conditions::negate;
+use x86::width::return_register;
 ghost use mathlib.Core.Bool.{false};
 ghost use mathlib.Core.List.{List, [], _∷_, map};
 ghost use mathlib.Core.Path.{_≡_};
@@ -31,10 +32,12 @@ ghost use Rattle.codes.specs.Coded.{isPlain, Coded};
 ghost use Rattle.codes.specs.Tables.{tableBytes};
 ghost use Rattle.operand.specs.Operand.{opTokens};
 ghost use Rattle.operand.specs.Lent.{Lent};
+ghost use Rattle.operand.specs.Memory.{registerToken};
+ghost use Rattle.x86.specs.Width.{returnRegister};
 ghost use Rattle.expressions.specs.Condition.{bodyOf};
 ghost use Rattle.line.specs.declared.pieces.Site.{Site};
 ghost use Rattle.line.specs.Codes.{rowBytes, pieceOf, codesOf};
-ghost use Rattle.line.specs.Print.{accumulatorToken, pieceTokens, piecesTokens};
+ghost use Rattle.line.specs.Print.{pieceTokens, piecesTokens};
 
 // What a line is printed with: its instruction, the first instruction of its block and of its range, its place, the registers
 // written.
@@ -46,15 +49,12 @@ pub struct Site {
     pub written: u16,
 }
 
-// rax or eax.
+// The return register.
 fn code_accumulator(codes: &mut [u64], tables: &[u8], bits: u16)
     requires { ⌜ (5 ≤ length (now codes)) × (now tables ≡ tableBytes) ⌝ }
-    ensures { λ _. ⌜ ((s : List ℕ) → Coded (now (tables .entry)) s (now (codes .entry)) (now (codes .exit)) (accumulatorToken bits ∷ [])) ⌝ }
+    ensures { λ _. ⌜ ((s : List ℕ) → Coded (now (tables .entry)) s (now (codes .entry)) (now (codes .exit)) (registerToken (returnRegister bits) ∷ [])) ⌝ }
 {
-    if bits == 64 {
-        return code_register(codes, tables, 0x50);
-    }
-    code_register(codes, tables, 0x40)
+    code_register(codes, tables, return_register(bits))
 }
 
 // The memory operand as an address, 0 and -1: pieces 136 to 138.

@@ -24,7 +24,8 @@ use Rattle.tokens.proofs.ListingLaws.{text-append}
 use Rattle.tokens.proofs.Bounds.{prefixed-short}
 use Rattle.operand.proofs.Choices.{pick-le}
 use Rattle.operand.proofs.WordNames.{type-short, prefix-short, segment-short}
-use Rattle.x86.specs.Registers.{registerNames, registerName, isStackPointer}
+use Rattle.x86.specs.Registers.{registerNames, registerName}
+use Rattle.x86.specs.Width.{isStackPointer}
 use Rattle.record.specs.declared.header.Header.{Header}
 use Rattle.record.specs.Layout.{pairsAt, pairsOf}
 use Rattle.record.specs.Atlas.{entryKind}
@@ -138,7 +139,7 @@ module _ (h : Header) (b : List ℕ) (bs : AllBytes b) where
   displacement-abs : natAbs (displacement h b) ≤ 2 ^ 63
   unfolding displacement
   displacement-abs =
-      pick-le natAbs (2 ^ 63) (eqb (h .bits) 64) _ _ (signed-abs 64 (memoryAddress b) (omega arith))
+      either (λ (w : ℕ). natAbs (signedAt w (memoryAddress b)) ≤ 2 ^ 63) (eqb (h .bits) 64) 64 32 (signed-abs 64 (memoryAddress b) (omega arith))
       (omega (arith, signed-abs 32 (memoryAddress b) (omega arith)))
 
   address-within : Within 11 61 (addressExpr h b .tokens)
@@ -162,7 +163,7 @@ module _ (h : Header) (b : List ℕ) (bs : AllBytes b) where
   slot-within p =
       one _ 46
       (prefixed-short _ (natAbs (slotNumber h b))
-      (pick-le (λ (t : Token). length (t .bytes)) 30 (isStackPointer (slotBase h b) || isNegative (slotNumber h b)) _ _ (omega arith) (omega arith))
+      (pick-le (λ (t : Token). length (t .bytes)) 30 (isStackPointer (h .bits) (slotBase h b) || isNegative (slotNumber h b)) _ _ (omega arith) (omega arith))
       (omega (arith, slot-abs p)))
 
 module _ (h : Header) (s : List ℕ) (ss : AllBytes s) where

@@ -18,7 +18,7 @@ use Rattle.record.specs.declared.search.Found.{Found}
 use Rattle.record.specs.declared.search.Found.the-variants.{At, Nothing}
 use Rattle.operand.specs.Expr.{Expr}
 use Rattle.operand.specs.Names.{entryAt, entryToken, nameOrAt, nameOr, literalAt}
-use Rattle.x86.specs.Registers.{isStackPointer}
+use Rattle.x86.specs.Width.{isStackPointer}
 use Rattle.operand.specs.Memory.{registerToken, number, prefixWord, global, slotBase, slotNumber, slotToken, addressOf, scaled, address}
 use Rattle.operand.specs.Sized.{sizedOf}
 
@@ -38,7 +38,7 @@ module _ (b : List ℕ) where
       go false = refl
 
 module _ (h : Header) (b : List ℕ) where
-  pub slot-read : (n : Sized) (s w : ℕ) (k : Bool) → n ≡ sizedOf (slotNumber h b) → s ≡ slotBase h b → k ≡ isStackPointer s → wordToken w ≡ pick (k || n .negative) (register "var_") (register "arg_")
+  pub slot-read : (n : Sized) (s w : ℕ) (k : Bool) → n ≡ sizedOf (slotNumber h b) → s ≡ slotBase h b → k ≡ isStackPointer (h .bits) s → wordToken w ≡ pick (k || n .negative) (register "var_") (register "arg_")
       → prefixed (wordToken w) (n .size) ≡ slotToken h b
   unfolding slotToken
   slot-read n s w k p q r e = rw (e, r, q, p)

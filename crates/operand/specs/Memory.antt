@@ -10,7 +10,8 @@ use Rattle.lists.specs.Signed.{signedAt}
 use Rattle.text.specs.Number.{numText}
 use Rattle.tokens.specs.Token.{Token, token, punct, keyword, register}
 use Rattle.tokens.specs.Words.{prefixed}
-use Rattle.x86.specs.Registers.{registerName, esp, rsp, eip, rip, fs, gs, isStackPointer}
+use Rattle.x86.specs.Registers.{registerName, eip, rip, fs, gs}
+use Rattle.x86.specs.Width.{stackPointer, isStackPointer, displacementBits}
 use Rattle.x86.specs.Sizes.{sizeType, sizePrefix}
 use Rattle.record.specs.declared.header.Header.{Header}
 use Rattle.record.specs.Body.{segmentOf, baseOf, indexOf, scaleOf, memorySize, memoryAddress}
@@ -80,11 +81,8 @@ module _ (h : Header) where
   abbrev pub isShifted : List ℕ → Bool
   isShifted b = eqb (h .shifted) 1 && isFrame (baseOf b) && eqb (indexOf b) 0
 
-  abbrev pub stackPointer : ℕ
-  stackPointer = pick (eqb (h .bits) 64) rsp esp
-
   unfoldable pub slotBase : List ℕ → ℕ
-  slotBase b = pick (isShifted b) stackPointer (baseOf b)
+  slotBase b = pick (isShifted b) (stackPointer (h .bits)) (baseOf b)
 
   -- the slot's displacement: signed 64-bit, and shifted
   unfoldable pub slotNumber : List ℕ → ℤ
@@ -94,16 +92,16 @@ module _ (h : Header) where
   unfoldable pub isSlot : List ℕ → Bool
   isSlot b =
       eqb (indexOf b) 0
-      && not (isStackPointer (slotBase b) && isNegative (slotNumber b))
-      && (isFrame (slotBase b) || isStackPointer (slotBase b))
+      && not (isStackPointer (h .bits) (slotBase b) && isNegative (slotNumber b))
+      && (isFrame (slotBase b) || isStackPointer (h .bits) (slotBase b))
 
   -- var_ by the stack pointer or below the frame register, arg_ above it
   unfoldable pub slotToken : List ℕ → Token
-  slotToken b = prefixed (pick (isStackPointer (slotBase b) || isNegative (slotNumber b)) (register "var_") (register "arg_")) (natAbs (slotNumber b))
+  slotToken b = prefixed (pick (isStackPointer (h .bits) (slotBase b) || isNegative (slotNumber b)) (register "var_") (register "arg_")) (natAbs (slotNumber b))
 
   -- the displacement that an address prints: never shifted
   unfoldable pub displacement : List ℕ → ℤ
-  displacement b = pick (eqb (h .bits) 64) (signedAt 64 (memoryAddress b)) (signedAt 32 (memoryAddress b))
+  displacement b = signedAt (displacementBits (h .bits)) (memoryAddress b)
 
   -- base + index × scale
   abbrev pub registers : List ℕ → Expr

@@ -36,9 +36,9 @@ use tokens::words::READ_GS_DWORD;
 use tokens::words::READ_GS_QWORD;
 use tokens::words::TIMES;
 use tokens::words::VAR;
-use x86::registers::is_stack_pointer;
 use x86::sizes::prefix_index;
 use x86::sizes::size_index;
+use x86::width::is_stack_pointer;
 ghost use mathlib.Core.Bool.{true, false, _||_};
 ghost use mathlib.Core.List.{[], _∷_, List};
 ghost use mathlib.Core.Path.{_≡_};
@@ -211,7 +211,7 @@ fn code_slot(codes: &mut [u64], tables: &[u8], h: Header, body: &[u8], deref: bo
     ensures { λ _. ⌜ ((s : List ℕ) → Coded (now (tables .entry)) s (now (codes .entry)) (now (codes .exit)) (addressOf deref (slotToken h (now (body .entry))))) ⌝ }
 {
     let n = slot_number(h, body);
-    let w = slot_word(is_stack_pointer(slot_base(h, body)), n.negative);
+    let w = slot_word(is_stack_pointer(h.bits, slot_base(h, body)), n.negative);
     if deref {
         return code_prefixed(codes, tables, w, n.size);
     }

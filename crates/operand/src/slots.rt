@@ -7,7 +7,8 @@ use record::body::memory_address;
 use record::body::memory_base;
 use record::body::memory_index;
 use record::header::Header;
-use x86::registers::is_stack_pointer;
+use x86::width::is_stack_pointer;
+use x86::width::stack_pointer;
 ghost use mathlib.Core.Path.{_≡_};
 ghost use lib.IntN.{_+ℤ_};
 ghost use Rattle.lists.specs.Signed.{signedAt};
@@ -31,10 +32,7 @@ pub fn slot_base(h: Header, body: &[u8]) -> u8
     ensures { λ r. ⌜ r ≡ slotBase h (now (body .entry)) ⌝ }
 {
     if is_shifted(h, body) {
-        if h.bits == 64 {
-            return 0x54;
-        }
-        return 0x44;
+        return stack_pointer(h.bits);
     }
     memory_base(body)
 }
@@ -69,7 +67,7 @@ pub fn is_slot(h: Header, body: &[u8]) -> bool
 {
     let base = slot_base(h, body);
     let n = slot_number(h, body);
-    let sp = is_stack_pointer(base);
+    let sp = is_stack_pointer(h.bits, base);
     (memory_index(body) == 0) & !(sp & n.negative) & (is_frame(h, base) | sp)
 }
 

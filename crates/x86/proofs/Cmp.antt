@@ -3,16 +3,17 @@
 use mathlib.Core.Path.{_≡_, refl, sym, ap, _∙_}
 use mathlib.Core.Bool.{Bool, true, false, not, _||_, or-comm, Bool·not-not}
 use Prim.Native.Nat.{ℕ, zero, suc, _+_, _-_, _^_, _≤_, _<_}
-use native.Mathlib.Nat.{add-mod-right, mod-eq-of-lt, add-zero, not-suc-le-zero, two-pow-succ}
+use native.Mathlib.Nat.{add-mod-right, mod-eq-of-lt, add-zero}
 use native.Mathlib.Decide.{ℕ-discrete, decLt}
 use native.Mathlib.Omega.{arith}
 use borrow.Author.Tests.{lt-ltb, le-ltb, le-leb, lt-leb, eq-eqb, ne-eqb}
 use lib.Dec.{ltb, leb, eqb}
 use lib.IntN.{ℤ, pos, negsuc, subℕ, _-ℤ_}
 use lib.Signed.{mag, ltZ, leZ}
-use Rattle.lists.specs.SignedLaws.{negsuc-sub}
+use Rattle.lists.specs.Signed.{half, signed}
+use Rattle.lists.specs.SignedLaws.{signed-low, signed-high, halves, negsuc-sub}
 use Rattle.x86.specs.Conditions.{eqZ}
-use Rattle.x86.specs.Flags.{half, signed, fits, difference, cmp, unlike, conditionHolds}
+use Rattle.x86.specs.Flags.{fits, difference, cmp, unlike, conditionHolds}
 
 -- ---- tests on numbers that say the same
 
@@ -68,16 +69,6 @@ mag-sub-ge a b l = simp (le-ltb a b l)
 
 -- ---- one width
 
-pow-two : (w : ℕ) → 1 ≤ w → 2 ^ w ≡ half w + half w
-pow-two zero h = absurd (not-suc-le-zero h)
-pow-two (suc v) h = let e : suc v - 1 ≡ v = omega arith in rw e (two-pow-succ v)
-
-pub signed-low : (w n : ℕ) → n < half w → signed w n ≡ pos n
-signed-low w n l = simp (lt-ltb n (half w) l)
-
-pub signed-high : (w n : ℕ) → half w ≤ n → signed w n ≡ negsuc (2 ^ w - n - 1)
-signed-high w n l = simp (le-ltb n (half w) l)
-
 module _ (w a b : ℕ) (h : 1 ≤ w) (ha : a < 2 ^ w) (hb : b < 2 ^ w) where
   difference-ge : b ≤ a → difference w a b ≡ a - b
   difference-ge l =
@@ -100,7 +91,7 @@ module _ (w a b : ℕ) (h : 1 ≤ w) (ha : a < 2 ^ w) (hb : b < 2 ^ w) where
     where
       go : Dec (a < b) → unlike (leb (half w) (difference w a b)) (not (ltb (mag (subℕ a b)) (half w))) ≡ ltb a b
       go (yes l) =
-          let t = pow-two w h in
+          let t = halves w h in
           rw (difference-lt l, mag-sub-lt a b l)
           (simp (le-leb (half w) (a + 2 ^ w - b) (omega arith), lt-ltb (b - suc a) (half w) (omega arith), lt-ltb a b l))
       go (no n) =
@@ -119,11 +110,11 @@ module _ (w a b : ℕ) (h : 1 ≤ w) (ha : a < 2 ^ w) (hb : b < 2 ^ w) where
     where
       go : Dec (a - b < half w) → unlike (leb (half w) (difference w a b)) (not (ltb (2 ^ w - a - 1 + b) (half w))) ≡ true
       go (yes l) =
-          let t = pow-two w h in
+          let t = halves w h in
           let g : b ≤ a = omega arith in
           rw (difference-ge g) (simp (lt-leb (half w) (a - b) l, le-ltb (2 ^ w - a - 1 + b) (half w) (omega arith)))
       go (no n) =
-          let t = pow-two w h in
+          let t = halves w h in
           let g : b ≤ a = omega arith in
           rw (difference-ge g) (simp (le-leb (half w) (a - b) (omega arith), lt-ltb (2 ^ w - a - 1 + b) (half w) (omega arith)))
 
@@ -133,11 +124,11 @@ module _ (w a b : ℕ) (h : 1 ≤ w) (ha : a < 2 ^ w) (hb : b < 2 ^ w) where
     where
       go : Dec (a < b) → unlike (leb (half w) (difference w a b)) (not (ltb (mag (subℕ (suc (2 ^ w - b - 1)) (suc (2 ^ w - a - 1)))) (half w))) ≡ ltb (2 ^ w - b - 1) (2 ^ w - a - 1)
       go (yes l) =
-          let t = pow-two w h in
+          let t = halves w h in
           rw (difference-lt l, mag-sub-lt (suc (2 ^ w - b - 1)) (suc (2 ^ w - a - 1)) (omega arith))
           (simp (le-leb (half w) (a + 2 ^ w - b) (omega arith), lt-ltb (suc (2 ^ w - a - 1) - suc (suc (2 ^ w - b - 1))) (half w) (omega arith), lt-ltb (2 ^ w - b - 1) (2 ^ w - a - 1) (omega arith)))
       go (no n) =
-          let t = pow-two w h in
+          let t = halves w h in
           let l : b ≤ a = omega arith in
           rw (difference-ge l, mag-sub-ge (suc (2 ^ w - b - 1)) (suc (2 ^ w - a - 1)) (omega arith))
           (simp (lt-leb (half w) (a - b) (omega arith), lt-ltb (suc (2 ^ w - b - 1) - suc (2 ^ w - a - 1)) (half w) (omega arith), le-ltb (2 ^ w - b - 1) (2 ^ w - a - 1) (omega arith)))

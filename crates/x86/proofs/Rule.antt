@@ -11,9 +11,10 @@ use lib.Bits.{bitAnd, and-self}
 use lib.Dec.{T}
 use lib.IntN.{pos}
 use Rattle.lists.specs.Choice.{allBelow}
+use Rattle.lists.specs.Signed.{signed}
 use Rattle.x86.specs.Conditions.{conditionNames, conditionName, among, isRelation, isEquality, no-relation, relationAfterCmp, relationAfterTest, relationAfterOther, related, printsUnsigned}
 use Rattle.x86.specs.FlagRule.{FlagRule, RelationPrinted, Rule, readFor}
-use Rattle.x86.specs.Flags.{cmp, test, conditionHolds, signed}
+use Rattle.x86.specs.Flags.{cmp, test, conditionHolds}
 use Rattle.x86.specs.Words.{wordsOf, isWordOf}
 use Rattle.lists.specs.Every.{beq→eq}
 use Rattle.lists.specs.Below.{below-at}

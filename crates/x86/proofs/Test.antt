@@ -12,8 +12,10 @@ use lib.Bits.{bitAnd}
 use lib.IntN.{ℤ, pos}
 use lib.Signed.{ltZ, leZ}
 use Rattle.x86.specs.Conditions.{eqZ}
-use Rattle.x86.specs.Flags.{half, signed, test, unlike, conditionHolds}
-use Rattle.x86.proofs.Cmp.{signed-low, signed-high, not-ltZ, not-leZ, lt-or-eq}
+use Rattle.lists.specs.Signed.{half, signed}
+use Rattle.lists.specs.SignedLaws.{signed-low, signed-high}
+use Rattle.x86.specs.Flags.{test, unlike, conditionHolds}
+use Rattle.x86.proofs.Cmp.{not-ltZ, not-leZ, lt-or-eq}
 
 unlike-false : (b : Bool) → unlike b false ≡ b
 unlike-false true = refl

@@ -7,8 +7,9 @@ use mathlib.Core.Bool.{true, not}
 use lib.Bits.{bitAnd}
 use lib.IntN.{ℤ, pos}
 use Rattle.lists.specs.Choice.{pick}
+use Rattle.lists.specs.Signed.{signed}
 use Rattle.x86.specs.Conditions.{isRelation, isEquality, relationAfterCmp, relationAfterTest, relationAfterOther, printsUnsigned, among, related, negate}
-use Rattle.x86.specs.Flags.{Flags, signed, cmp, test, conditionHolds}
+use Rattle.x86.specs.Flags.{Flags, cmp, test, conditionHolds}
 
 -- a number of w bits as the relation printed for condition k after CMP reads it
 abbrev pub readFor : ℕ → ℕ → ℕ → ℤ

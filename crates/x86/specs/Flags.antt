@@ -4,10 +4,10 @@ use mathlib.Core.Bool.{Bool, true, false, not, _||_}
 use mathlib.Core.List.{[], _∷_}
 use lib.Bits.{bitAnd}
 use lib.Dec.{ltb, leb, eqb}
-use lib.IntN.{ℤ, pos, negsuc, _-ℤ_}
+use lib.IntN.{ℤ, _-ℤ_}
 use lib.ListN.{getD}
 use lib.Signed.{mag}
-use Rattle.lists.specs.Choice.{pick}
+use Rattle.lists.specs.Signed.{half, signed}
 
 pub record Flags : Type 0 where
   pub cf : Bool
@@ -15,13 +15,6 @@ pub record Flags : Type 0 where
   pub zf : Bool
   pub sf : Bool
   pub of : Bool
-
-abbrev pub half : ℕ → ℕ
-half w = 2 ^ (w - 1)
-
--- n of w bits read as a signed number; negsuc m is -1 - m
-abbrev pub signed : ℕ → ℕ → ℤ
-signed w n = pick (ltb n (half w)) (pos n) (negsuc (2 ^ w - n - 1))
 
 -- the signed number fits w bits: mag z is z, or -1 - z where z is negative
 abbrev pub fits : ℕ → ℤ → Bool

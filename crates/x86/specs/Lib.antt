@@ -1,5 +1,6 @@
 pub mod Words
 pub mod Registers
+pub mod Width
 pub mod Mnemonics
 pub mod Conditions
 pub mod Flags

@@ -74,10 +74,6 @@ pub registers-numbered : map registerName (esp ∷ rsp ∷ eip ∷ rip ∷ fs �
 unfolding registerNames registerName
 registers-numbered = refl
 
--- the stack pointer, at either width
-abbrev pub isStackPointer : ℕ → Bool
-isStackPointer r = eqb r esp || eqb r rsp
-
 -- the whole register that r is a part of: of classes 1 to 5 the qword register of the same index (ah ch dh bh have
 -- rax rcx rdx rbx), of eip and rip rip; each other one is whole itself
 unfoldable pub fullRegister : ℕ → ℕ

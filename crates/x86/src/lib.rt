@@ -5,3 +5,4 @@ pub mod mnemonics;
 pub mod registers;
 pub mod sizes;
 pub mod table;
+pub mod width;

@@ -1,6 +1,6 @@
 // Registers by number: class × 16 + index, 0 for none.
 ghost use mathlib.Core.Path.{_≡_};
-ghost use Rattle.x86.specs.Registers.{classSize, registerExists, fullRegister, registerSize, isStackPointer, calleeSaved};
+ghost use Rattle.x86.specs.Registers.{classSize, registerExists, fullRegister, registerSize, calleeSaved};
 ghost use Rattle.x86.specs.Table.{missingTable, isaBytes};
 use super::table::column;
 use lists::reads::plain_u8;
@@ -72,13 +72,6 @@ pub fn register_size(isa: &[u8], r: u8) -> u8
     ensures { λ n. ⌜ n ≡ registerSize r ⌝ }
 {
     column(isa, 7, 8, 160, r, 0)
-}
-
-// esp and rsp.
-pub fn is_stack_pointer(r: u8) -> bool
-    ensures { λ b. ⌜ b ≡ isStackPointer r ⌝ }
-{
-    (r == 0x44) | (r == 0x54)
 }
 
 // rbx rbp rsi rdi and r12 to r15, or a part of one.

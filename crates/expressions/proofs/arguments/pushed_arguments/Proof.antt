@@ -17,12 +17,12 @@ use Rattle.expressions.proofs.arguments.pushed_arguments.Statement.{sta
 use Rattle.expressions.proofs.arguments.pushed_arguments.Tie as tie
 
 abbrev Inv-loop : tie.InvT-loop
-Inv-loop codes₀ tables rec h first i bodies frame comma₀ k₀ codes comma k =
+Inv-loop codes₀ tables rec h first i bodies bits frame comma₀ k₀ codes comma k =
     (length codes ≡ length codes₀)
-    × Sofar tables rec codes₀ codes (pushed h rec false (pushesBack frame bodies first (i - first))) (pushed h rec comma (pushesBack frame bodies first (k - first)))
+    × Sofar tables rec codes₀ codes (pushed h rec false (pushesBack bits frame bodies first (i - first))) (pushed h rec comma (pushesBack bits frame bodies first (k - first)))
 
 abbrev μ-loop : tie.MeasureT-loop
-μ-loop codes₀ tables rec h first i bodies frame comma₀ k₀ codes comma k = k
+μ-loop codes₀ tables rec h first i bodies bits frame comma₀ k₀ codes comma k = k
 
 bodies-at-requires : tie.Need-bodies-at-requires Inv-loop μ-loop
 bodies-at-requires c κs = search needs
@@ -45,7 +45,7 @@ same-length c = search needs
 returns : tie.Need-returns Inv-loop μ-loop
 returns c =
     let a = c .before .before .before .before .before .before .before .before .before .args in
-    as-tokens (all-pushed (a .h) (a .rec .now) _ (a .first) (a .i) (bodies-are (a .h) (a .rec .now) (c .before .before .before .before .from .ensures .0) (c .before .before .before .before .before .bodies-at .ensures .0))) (at-end (c .before .before .before .loop .inv .1) (back-stop _ _ _ (c .before .before .before .loop .k) (a .h) (a .rec .now) (c .before .before .before .loop .comma) _ (c .before .before .loop-test .taken) (c .before .push-part .ensures) (c .if1 .taken)))
+    as-tokens (all-pushed (a .h) (a .rec .now) _ (a .first) (a .i) (bodies-are (a .h) (a .rec .now) (c .before .before .before .before .from .ensures .0) (c .before .before .before .before .before .bodies-at .ensures .0))) (at-end (c .before .before .before .loop .inv .1) (back-stop _ _ _ _ (c .before .before .before .loop .k) (a .h) (a .rec .now) (c .before .before .before .loop .comma) _ (c .before .before .loop-test .taken) (c .before .push-part .ensures) (c .if1 .taken)))
 
 body-at-requires : tie.Need-body-at-requires Inv-loop μ-loop
 body-at-requires c κs = search needs
@@ -60,7 +60,7 @@ loop-again : tie.Need-loop-again Inv-loop μ-loop
 loop-again c =
     let a = c .before .before .before .before .before .before .before .before .before .before .before .before .before .before .args in (
       omega (arith, (c .before .before .code-pushed .kept .0), (c .before .before .before .before .before .before .before .before .loop .inv .0)),
-      further (c .before .before .before .before .before .before .before .before .loop .inv .1) (back-turn (a .h) (a .rec .now) _ _ (bodies-are (a .h) (a .rec .now) (c .before .before .before .before .before .before .before .before .before .from .ensures .0) (c .before .before .before .before .before .before .before .before .before .before .bodies-at .ensures .0)) _ (c .before .before .before .before .before .before .before .before .loop .k) (c .before .before .before .before .before .before .before .loop-test .taken) (c .before .before .before .before .before .before .before .before .loop .comma) _ (c .before .before .before .before .before .before .push-part .ensures) (c .before .before .before .before .before .if1 .left) _ (c .before .before .before .before .body-at .ensures)) (c .before .before .code-pushed .ensures),
+      further (c .before .before .before .before .before .before .before .before .loop .inv .1) (back-turn (a .h) (a .rec .now) _ _ _ (bodies-are (a .h) (a .rec .now) (c .before .before .before .before .before .before .before .before .before .from .ensures .0) (c .before .before .before .before .before .before .before .before .before .before .bodies-at .ensures .0)) _ (c .before .before .before .before .before .before .before .before .loop .k) (c .before .before .before .before .before .before .before .loop-test .taken) (c .before .before .before .before .before .before .before .before .loop .comma) _ (c .before .before .before .before .before .before .push-part .ensures) (c .before .before .before .before .before .if1 .left) _ (c .before .before .before .before .body-at .ensures)) (c .before .before .code-pushed .ensures),
     )
 
 same-length-2 : tie.Need-same-length-2 Inv-loop μ-loop
@@ -69,7 +69,7 @@ same-length-2 c = search needs
 returns-2 : tie.Need-returns-2 Inv-loop μ-loop
 returns-2 c =
     let a = c .before .before .before .before .before .before .before .args in
-    as-tokens (all-pushed (a .h) (a .rec .now) _ (a .first) (a .i) (bodies-are (a .h) (a .rec .now) (c .before .before .from .ensures .0) (c .before .before .before .bodies-at .ensures .0))) (at-end (c .before .loop .inv .1) (back-none _ _ _ (c .before .loop .k) (a .h) (a .rec .now) (c .before .loop .comma) (c .loop-test .left)))
+    as-tokens (all-pushed (a .h) (a .rec .now) _ (a .first) (a .i) (bodies-are (a .h) (a .rec .now) (c .before .before .from .ensures .0) (c .before .before .before .bodies-at .ensures .0))) (at-end (c .before .loop .inv .1) (back-none _ _ _ _ (c .before .loop .k) (a .h) (a .rec .now) (c .before .loop .comma) (c .loop-test .left)))
 
 pub pushed-arguments-spec : {M : Type 1} → statement M
 pushed-arguments-spec =

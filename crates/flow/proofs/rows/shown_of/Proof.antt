@@ -28,14 +28,14 @@ returns-2 : tie.Need-returns-2
 returns-2 c =
     let k = c .before .before .before .before in
     let a = k .before .before .before .before .args in
-    simp (class-shown (a .frame) (a .body .now) (sym (ap silentClass (c .before .before .mnemonic .ensures)) ∙ sym (c .before .silent-class .ensures) ∙ c .if2 .taken)
+    simp (class-shown (a .bits) (a .frame) (a .body .now) (sym (ap silentClass (c .before .before .mnemonic .ensures)) ∙ sym (c .before .silent-class .ensures) ∙ c .if2 .taken)
     (sym (ap (λ (x : ℕ). eqb x 1) (k .skip-mark .ensures)) ∙ ne-eqb _ _ (c .before .before .before .if1 .left)))
 
 returns-3 : tie.Need-returns-3
 returns-3 c =
     let k = c .before .before in
     let a = k .before .before .before .before .before .before .before .args in
-    simp (class-silent (a .frame) (a .body .now) (sym (ap silentClass (k .before .mnemonic .ensures)) ∙ sym (k .silent-class .ensures) ∙ c .if3 .taken))
+    simp (class-silent (a .bits) (a .frame) (a .body .now) (sym (ap silentClass (k .before .mnemonic .ensures)) ∙ sym (k .silent-class .ensures) ∙ c .if3 .taken))
 
 is-silent-itself-requires : tie.Need-is-silent-itself-requires
 is-silent-itself-requires c κs = search needs

@@ -6,20 +6,20 @@ use mathlib.Core.List.{List}
 use mathlib.Core.Path.{_≡_, sym, _∙_}
 use borrow.Author.Tests.{ne-eqb}
 use Rattle.x86.specs.Mnemonics.{mov, lea}
-use Rattle.x86.specs.Registers.{isStackPointer}
+use Rattle.x86.specs.Width.{isStackPointer}
 use Rattle.flow.specs.Silent.{registerFirst, movesFrame, isPrologueNoise}
 use Rattle.record.specs.Body.{mnemonicOf, operandRegister}
 use borrow.Author.Needs.{needs}
 use Rattle.flow.proofs.silent.is_prologue_noise.Statement.{statement}
 use Rattle.flow.proofs.silent.is_prologue_noise.Tie as tie
 
-noise-mov : (frame : ℕ) (b : List ℕ) {x y : Bool} → x ≡ registerFirst b → y ≡ movesFrame frame b → mnemonicOf b ≡ mov → (x && y) ≡ isPrologueNoise frame b
+noise-mov : (bits frame : ℕ) (b : List ℕ) {x y : Bool} → x ≡ registerFirst b → y ≡ movesFrame bits frame b → mnemonicOf b ≡ mov → (x && y) ≡ isPrologueNoise bits frame b
 unfolding isPrologueNoise
-noise-mov frame b p q e = rw (e, p, q)
+noise-mov bits frame b p q e = rw (e, p, q)
 
-noise-lea : (frame : ℕ) (b : List ℕ) {x y : Bool} {r : ℕ} → x ≡ registerFirst b → y ≡ isStackPointer r → r ≡ operandRegister b 0 → mnemonicOf b ≡ lea → (x && y) ≡ isPrologueNoise frame b
+noise-lea : (bits frame : ℕ) (b : List ℕ) {x y : Bool} {r : ℕ} → x ≡ registerFirst b → y ≡ isStackPointer bits r → r ≡ operandRegister b 0 → mnemonicOf b ≡ lea → (x && y) ≡ isPrologueNoise bits frame b
 unfolding isPrologueNoise
-noise-lea frame b p q s e = rw (e, p, q, s)
+noise-lea bits frame b p q s e = rw (e, p, q, s)
 
 mnemonic-requires : tie.Need-mnemonic-requires
 mnemonic-requires c κs = search needs
@@ -73,7 +73,7 @@ moves-frame-requires c κs = search needs
 returns-3 : tie.Need-returns-3
 returns-3 c =
     let m = c .before .before .before .before .before .before .before .mnemonic .ensures in
-    noise-mov _ _ (c .before .register-first3 .ensures) (c .moves-frame .ensures) (sym m ∙ c .before .before .if3 .taken)
+    noise-mov _ _ _ (c .before .register-first3 .ensures) (c .moves-frame .ensures) (sym m ∙ c .before .before .if3 .taken)
 
 register-first-requires-4 : tie.Need-register-first-requires-4
 register-first-requires-4 c κs = search needs
@@ -87,7 +87,7 @@ is-stack-pointer-requires-2 c κs = search needs
 returns-4 : tie.Need-returns-4
 returns-4 c =
     let m = c .before .before .before .before .before .before .before .before .before .mnemonic .ensures in
-    noise-lea _ _ (c .before .before .register-first4 .ensures) (c .is-stack-pointer2 .ensures) (c .before .op-register3 .ensures) (sym m ∙ c .before .before .before .if4 .taken)
+    noise-lea _ _ _ (c .before .before .register-first4 .ensures) (c .is-stack-pointer2 .ensures) (c .before .op-register3 .ensures) (sym m ∙ c .before .before .before .if4 .taken)
 
 is-padding-requires : tie.Need-is-padding-requires
 is-padding-requires c κs = search needs
