@@ -21,7 +21,7 @@ extern "C" {
 enum cakirotu_answer {
     CAKIROTU_LISTED = 0,
     CAKIROTU_NO_HEADER = 1,        /* at least 24 bytes? */
-    CAKIROTU_NO_SETTINGS = 2,      /* bits, convention and shift as the record format has them? */
+    CAKIROTU_NO_SETTINGS = 2,      /* bits 16, 32 or 64, convention and shift as the record format has them? */
     CAKIROTU_NO_LIMITS = 3,        /* at most 200 blocks, 500 instructions, 600 edges, 200 atlas entries, 32 spans, 4,000 text
                                       bytes, indent 55? */
     CAKIROTU_NO_LENGTH = 4,        /* as long as the header's sizes say? */

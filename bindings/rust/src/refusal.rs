@@ -55,7 +55,7 @@ impl Refusal {
     pub fn question(self) -> &'static str {
         match self {
             Refusal::Header => "Are there at least 24 bytes?",
-            Refusal::Settings => "Are bits 32 or 64, the convention 0 or 1, the shift mark 0 or 1, and the shift 0 if not given?",
+            Refusal::Settings => "Are bits 16, 32 or 64, the convention 0 or 1, the shift mark 0 or 1, and the shift 0 if not given?",
             Refusal::Limits => {
                 "At most 200 blocks, 500 instructions, 600 edges, 200 atlas entries, 32 spans, 4,000 text bytes, indent 55?"
             }

@@ -28,7 +28,7 @@ fn whole(record: &[u8], no: Refusal) {
 #[test]
 fn questions_1_to_4() {
     (0..24).for_each(|n| whole(&example()[..n], Refusal::Header));
-    whole(&with(example(), 0, 16), Refusal::Settings);
+    whole(&with(example(), 0, 48), Refusal::Settings);
     whole(&with(example(), 2, 2), Refusal::Settings);
     whole(&with(example(), 16, 1), Refusal::Settings);
     whole(&with(example(), 20, 2), Refusal::Settings);

@@ -24,7 +24,8 @@ use Rattle.writer.specs.declared.write.Cursor.{Cursor}
 use Rattle.record.specs.declared.header.Header.{Header}
 use Rattle.record.specs.Header.{headerOf}
 use Rattle.operand.proofs.Accepted.{accepted-rising}
-use Rattle.operand.proofs.Bounds.{AllBytes, Within, more, either, mem-within}
+use Rattle.operand.proofs.Bounds.{AllBytes, Within, more, mem-within}
+use Rattle.operand.proofs.Choices.{either}
 use Rattle.operand.specs.Lent.{Rising}
 use Rattle.operand.specs.Memory.{memTokens}
 use Rattle.operand.specs.Operand.{opTokens}

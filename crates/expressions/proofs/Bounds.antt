@@ -19,8 +19,8 @@ use Rattle.record.specs.Body.{mnemonicOf}
 use Rattle.operand.specs.Alike.{alike}
 use Rattle.operand.specs.Memory.{number}
 use Rattle.operand.specs.Operand.{opTokens}
-use Rattle.operand.proofs.Bounds.{AllBytes, bytes-drop, upTo, Within, nothing, more, one, both, either, wrapped, register-within, number-within, op-within}
-use Rattle.operand.proofs.Choices.{pick-le}
+use Rattle.operand.proofs.Bounds.{AllBytes, bytes-drop, upTo, Within, nothing, more, one, both, wrapped, register-within, number-within, op-within}
+use Rattle.operand.proofs.Choices.{either, pick-le}
 use Rattle.x86.specs.Mnemonics.{push, call}
 use Rattle.record.specs.declared.search.Found.{Found}
 use Rattle.record.specs.declared.search.Found.the-variants.{At, Nothing}

@@ -1,4 +1,4 @@
--- Document 01's cases (a) to (j), as rows of one check: whole records of which every question up to 11 gets a yes, and the lines that
+-- Document 01's cases (a) to (j) and one of #114, as rows of one check: whole records of which every question up to 11 gets a yes, and the lines that
 -- each prints.
 -- All rows are computed at once from the definitions that the contracts cite.
 use mathlib.Core.Path.{_≡_, ap, _∙_}
@@ -19,7 +19,7 @@ use Rattle.tokens.specs.Token.{Token, token, punct, plainText, keyword, registe
 use Rattle.tokens.specs.Words.{prefixed}
 use Rattle.tokens.specs.Listing.{run, join}
 use Rattle.x86.specs.Registers.{registerNames, registerName, registerExists}
-use Rattle.x86.specs.Width.{isStackPointer}
+use Rattle.x86.specs.Width.{isStackPointer, addsToWord}
 use Rattle.x86.specs.Mnemonics.{mov, lea, add, dec, cmp, mnemonicNames, mnemonicName, writesFlags}
 use Rattle.x86.specs.Conditions.{conditionNames, conditionName, operatorText, relationAfterCmp, relationAfterOther, printsUnsigned}
 use Rattle.x86.specs.Sizes.{sizeTypes, sizeType}
@@ -30,7 +30,7 @@ use Rattle.record.specs.Body.{bodiesOk, bodyOk, fixedOk, operandsOk, operandOk,
 use Rattle.record.specs.Atlas.{textStart, atlasOk, entriesOk, textsOk, textOk, spansOk}
 use Rattle.record.specs.Search.{findFrom, lastFrom}
 use Rattle.operand.specs.Names.{entryAt, entryToken, nameOr, inSpan}
-use Rattle.operand.specs.Memory.{slotBase, slotNumber, isSlot, slotToken, displacement, typeWord, addressExpr, memExpr, memTokens}
+use Rattle.operand.specs.Memory.{slotBase, slotDisplacement, slotNumber, isSlot, slotToken, displacement, typeWord, addressExpr, memExpr, memTokens}
 use Rattle.operand.specs.Operand.{signedRead, immediateNumber, immediate, opTokens}
 use Rattle.expressions.specs.Condition.{flagWriter, afterWriter, conditionTokens}
 use Rattle.cfg.specs.Graph.{closesLoop, hasEdge, endingIn}
@@ -227,8 +227,24 @@ case-j = record {
       ∷ [];
 }
 
+-- #114, "displacements added to a word register are read as the signed low 16 bits": bits 16, frame bp, a load of bp-4 into ax, a store of ax
+-- at bx+si-2
+abbrev case-16 : Case
+case-16 = record {
+  bytes =
+      recordOf 16 0x35 0 0 []
+      ((0x1000, insn mov (memory 0x35 0 1 2 0xFFFC) (inRegister 0x30 ∷ inMemory ∷ []))
+      ∷ (0x1003, insn mov (memory 0x33 0x36 1 2 0xFFFE) (inMemory ∷ inRegister 0x30 ∷ []))
+      ∷ [])
+      [];
+  expected =
+      (register "ax" ∷ punct " = " ∷ register "var_4" ∷ punct ";" ∷ [])
+      ∷ (keyword "*(uint16_t *)" ∷ punct "((" ∷ register "bx" ∷ punct " + " ∷ register "si" ∷ punct ") - " ∷ numeral "2" ∷ punct ") = " ∷ register "ax" ∷ punct ";" ∷ [])
+      ∷ [];
+}
+
 pub cases : List Case
-cases = case-a ∷ case-b ∷ case-c ∷ case-d ∷ case-e ∷ case-f ∷ case-g ∷ case-h ∷ case-i ∷ case-j ∷ []
+cases = case-a ∷ case-b ∷ case-c ∷ case-d ∷ case-e ∷ case-f ∷ case-g ∷ case-h ∷ case-i ∷ case-j ∷ case-16 ∷ []
 
 -- a number in hex by as many division steps as it has digits, which computes
 hex : (l : Bool) (k v : ℕ) → v < 16 ^ suc k → hexText l v ≡ hexOf l (suc k) v
@@ -243,7 +259,7 @@ hex l (suc k) v h =
     ]
 
 pub all-print : map answered cases ≡ map (λ (c : Case). (0, c .expected)) cases
-unfolding cases flatten flatMap headerOf firstNo sizesNo blocksNo contentsNo rangeNo marksAsked startsAsked edgeKindsAsked bodiesAsked atlasAsked spansAsked marksOk startsDiffer startIsNew edgeKindsOk bodiesOk bodyOk fixedOk operandsOk operandOk isName isZeros registerExists atlasOk entriesOk textsOk textOk spansOk join run printed lineTokens piecesTokens rowOf insnForm plainForm recordPlan blockRows edgeRows edgeRow shownRows shownRow rowsFrom blockRow firstInstruction firstEdge blockEnding blockBranch endingOf placeOf findFrom isSilentItself isPrologueNoise isStackPointer rangeLines treeLines treeOf treeGo shapeAt lastLoop lastFrom closesLoop hasEdge endingIn regionAt opensRegion plainLines shownLines bodyCount closingLines relationAfterOther pieceTokens opTokens immediate immediateNumber signedRead memTokens memExpr addressExpr displacement typeWord sizeType sizeTypes slotToken isSlot slotNumber slotBase nameOr entryAt entryToken textStart inSpan prefixed numText sign sizeText hexOf digit registerName registerNames literalText opening closing escapes escape conditionTokens flagWriter afterWriter writesFlags mnemonicName mnemonicNames conditionName conditionNames operatorText relationAfterCmp printsUnsigned
+unfolding cases flatten flatMap headerOf firstNo sizesNo blocksNo contentsNo rangeNo marksAsked startsAsked edgeKindsAsked bodiesAsked atlasAsked spansAsked marksOk startsDiffer startIsNew edgeKindsOk bodiesOk bodyOk fixedOk operandsOk operandOk isName isZeros registerExists atlasOk entriesOk textsOk textOk spansOk join run printed lineTokens piecesTokens rowOf insnForm plainForm recordPlan blockRows edgeRows edgeRow shownRows shownRow rowsFrom blockRow firstInstruction firstEdge blockEnding blockBranch endingOf placeOf findFrom isSilentItself isPrologueNoise isStackPointer rangeLines treeLines treeOf treeGo shapeAt lastLoop lastFrom closesLoop hasEdge endingIn regionAt opensRegion plainLines shownLines bodyCount closingLines relationAfterOther pieceTokens opTokens immediate immediateNumber signedRead memTokens memExpr addressExpr displacement typeWord sizeType sizeTypes slotToken isSlot slotNumber slotDisplacement addsToWord slotBase nameOr entryAt entryToken textStart inSpan prefixed numText sign sizeText hexOf digit registerName registerNames literalText opening closing escapes escape conditionTokens flagWriter afterWriter writesFlags mnemonicName mnemonicNames conditionName conditionNames operatorText relationAfterCmp printsUnsigned
 all-print =
     rw (
       hex false 0 10 (omega arith),
@@ -254,4 +270,5 @@ all-print =
       hex true 7 0xFFFFFFF8 (omega arith),
       hex true 7 0x1010 (omega arith),
       hex true 7 0x1000 (omega arith),
+      hex true 0 4 (omega arith),
     )

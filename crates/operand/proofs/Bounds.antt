@@ -22,7 +22,8 @@ use Rattle.tokens.specs.Words.{prefixed}
 use Rattle.tokens.specs.Listing.{textOf}
 use Rattle.tokens.proofs.ListingLaws.{text-append}
 use Rattle.tokens.proofs.Bounds.{prefixed-short}
-use Rattle.operand.proofs.Choices.{pick-le}
+use Rattle.operand.proofs.Choices.{either, pick-le}
+use Rattle.operand.proofs.Displacements.{fits-abs, slot-fits, displacement-fits}
 use Rattle.operand.proofs.WordNames.{type-short, prefix-short, segment-short}
 use Rattle.x86.specs.Registers.{registerNames, registerName}
 use Rattle.x86.specs.Width.{isStackPointer}
@@ -34,7 +35,7 @@ use Rattle.record.specs.declared.search.Found.{Found}
 use Rattle.record.specs.declared.search.Found.the-variants.{At, Nothing}
 use Rattle.operand.specs.Expr.{Expr, wrap, wrapIf}
 use Rattle.operand.specs.Names.{entryAt, entryToken, nameOrAt, nameOr, inSpan, isLiteral}
-use Rattle.operand.specs.Memory.{registerToken, number, prefixWord, addressOf, isNegative, isShifted, slotBase, slotNumber, isSlot, slotToken, displacement, scaled, registers, addressExpr, isSegmentRead, isGlobal, segmentRead, global, address, memExpr, memTokens}
+use Rattle.operand.specs.Memory.{registerToken, number, prefixWord, addressOf, isNegative, isShifted, slotBase, slotDisplacement, slotNumber, isSlot, slotToken, displacement, scaled, registers, addressExpr, isSegmentRead, isGlobal, segmentRead, global, address, memExpr, memTokens}
 use Rattle.operand.specs.Operand.{signedRead, inWindow, immediateNumber, immediate, opTokens}
 
 -- a list of bytes
@@ -99,11 +100,6 @@ one t m p = record { few = omega arith; short = rw append-nil p }
 pub both : {n m k l : ℕ} {a b : List Token} → Within n m a → Within k l b → Within (n + k) (m + l) (a ++ b)
 both {a = a} {b = b} p q = record { few = omega (arith, length-append a b); short = rw text-append (omega (arith, length-append (textOf a) (textOf b))) }
 
--- of two, either
-pub either : {A : Type 0} (P : A → Type 0) (t : Bool) (x y : A) → P x → P y → P (pick t x y)
-either P true x y p q = p
-either P false x y p q = q
-
 pub wrapped : (n m : ℕ) (e : Expr) → Within n m (e .tokens) → Within (n + 2) (m + 2) (wrap e)
 wrapped n m e p = go (e .loose)
   where
@@ -136,12 +132,6 @@ module _ (h : Header) (b : List ℕ) (bs : AllBytes b) where
       (more 7 37 scaled-within (omega arith) (omega arith))
       (both (register-within (slotBase h b)) (both (one (punct " + ") 3 (omega arith)) (wrapped 3 27 (scaled b) scaled-within))))
 
-  displacement-abs : natAbs (displacement h b) ≤ 2 ^ 63
-  unfolding displacement
-  displacement-abs =
-      either (λ (w : ℕ). natAbs (signedAt w (memoryAddress b)) ≤ 2 ^ 63) (eqb (h .bits) 64) 64 32 (signed-abs 64 (memoryAddress b) (omega arith))
-      (omega (arith, signed-abs 32 (memoryAddress b) (omega arith)))
-
   address-within : Within 11 61 (addressExpr h b .tokens)
   unfolding addressExpr
   address-within =
@@ -150,13 +140,13 @@ module _ (h : Header) (b : List ℕ) (bs : AllBytes b) where
       (both (wrapped 7 37 (registers h b) registers-within)
       (both
       (either (λ (t : Token). Within 1 3 (t ∷ [])) (isNegative (displacement h b)) _ _ (one (punct " - ") 3 (omega arith)) (one (punct " + ") 3 (omega arith)))
-      (number-within false (natAbs (displacement h b)) (omega (arith, displacement-abs)))))
+      (number-within false (natAbs (displacement h b)) (omega (arith, fits-abs (displacement h b) (displacement-fits h b))))))
 
   slot-abs : natAbs (h .shift) ≤ 2 ^ 31 → natAbs (slotNumber h b) ≤ 2 ^ 63 + 2 ^ 31
   unfolding slotNumber
   slot-abs p =
-      let m = signed-abs 64 (memoryAddress b) (omega arith) in
-      pick-le natAbs (2 ^ 63 + 2 ^ 31) (isShifted h b) _ _ (omega (arith, sum-abs (signedAt 64 (memoryAddress b)) (h .shift), m)) (omega (arith, m))
+      let m = fits-abs (slotDisplacement h b) (slot-fits h b) in
+      pick-le natAbs (2 ^ 63 + 2 ^ 31) (isShifted h b) _ _ (omega (arith, sum-abs (slotDisplacement h b) (h .shift), m)) (omega (arith, m))
 
   slot-within : natAbs (h .shift) ≤ 2 ^ 31 → Within 1 46 (slotToken h b ∷ [])
   unfolding slotToken

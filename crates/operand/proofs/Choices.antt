@@ -26,6 +26,11 @@ use Rattle.operand.specs.Memory.{registerToken, number, isSegmentRead, i
 use Rattle.operand.specs.Operand.{signedRead, inWindow, immediateNumber, immediate, opTokens}
 use Rattle.operand.proofs.Readings.{yes-is, no-is}
 
+-- of two, either
+pub either : {A : Type 0} (P : A → Type 0) (t : Bool) (x y : A) → P x → P y → P (pick t x y)
+either P true x y p q = p
+either P false x y p q = q
+
 pub yes-of : {A : Type 0} (t : Bool) (x y : A) → t ≡ true → pick t x y ≡ x
 yes-of t x y e = rw e
 

@@ -3,6 +3,7 @@ pub mod Integers
 pub mod Texts
 pub mod Readings
 pub mod Choices
+pub mod Displacements
 pub mod WordNames
 pub mod Bounds
 pub mod Tokens

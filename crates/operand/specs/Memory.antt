@@ -11,7 +11,7 @@ use Rattle.text.specs.Number.{numText}
 use Rattle.tokens.specs.Token.{Token, token, punct, keyword, register}
 use Rattle.tokens.specs.Words.{prefixed}
 use Rattle.x86.specs.Registers.{registerName, eip, rip, fs, gs}
-use Rattle.x86.specs.Width.{stackPointer, isStackPointer, displacementBits}
+use Rattle.x86.specs.Width.{stackPointer, isStackPointer, slotBits, addressBits}
 use Rattle.x86.specs.Sizes.{sizeType, sizePrefix}
 use Rattle.record.specs.declared.header.Header.{Header}
 use Rattle.record.specs.Body.{segmentOf, baseOf, indexOf, scaleOf, memorySize, memoryAddress}
@@ -84,16 +84,19 @@ module _ (h : Header) where
   unfoldable pub slotBase : List ℕ → ℕ
   slotBase b = pick (isShifted b) (stackPointer (h .bits)) (baseOf b)
 
-  -- the slot's displacement: signed 64-bit, and shifted
+  -- the displacement of a slot, by the base and the index that are recorded
+  unfoldable pub slotDisplacement : List ℕ → ℤ
+  slotDisplacement b = signedAt (slotBits (h .bits) (baseOf b) (indexOf b)) (memoryAddress b)
+
   unfoldable pub slotNumber : List ℕ → ℤ
-  slotNumber b = pick (isShifted b) (signedAt 64 (memoryAddress b) +ℤ h .shift) (signedAt 64 (memoryAddress b))
+  slotNumber b = pick (isShifted b) (slotDisplacement b +ℤ h .shift) (slotDisplacement b)
 
   -- a stack slot: by the frame register, or by the stack pointer and not below it
   unfoldable pub isSlot : List ℕ → Bool
   isSlot b =
       eqb (indexOf b) 0
-      && not (isStackPointer (h .bits) (slotBase b) && isNegative (slotNumber b))
       && (isFrame (slotBase b) || isStackPointer (h .bits) (slotBase b))
+      && not (isStackPointer (h .bits) (slotBase b) && isNegative (slotNumber b))
 
   -- var_ by the stack pointer or below the frame register, arg_ above it
   unfoldable pub slotToken : List ℕ → Token
@@ -101,7 +104,7 @@ module _ (h : Header) where
 
   -- the displacement that an address prints: never shifted
   unfoldable pub displacement : List ℕ → ℤ
-  displacement b = signedAt (displacementBits (h .bits)) (memoryAddress b)
+  displacement b = signedAt (addressBits (h .bits) (baseOf b) (indexOf b)) (memoryAddress b)
 
   -- base + index × scale
   abbrev pub registers : List ℕ → Expr

@@ -7,12 +7,13 @@ use record::body::memory_address;
 use record::body::memory_base;
 use record::body::memory_index;
 use record::header::Header;
+use x86::width::adds_to_word;
 use x86::width::is_stack_pointer;
 use x86::width::stack_pointer;
 ghost use mathlib.Core.Path.{_≡_};
-ghost use lib.IntN.{_+ℤ_};
 ghost use Rattle.lists.specs.Signed.{signedAt};
-ghost use Rattle.operand.specs.Memory.{isFrame, isShifted, slotBase, slotNumber, isSlot, displacement};
+ghost use Rattle.record.specs.Body.{memoryAddress};
+ghost use Rattle.operand.specs.Memory.{isFrame, isShifted, slotBase, slotDisplacement, slotNumber, isSlot, displacement};
 ghost use Rattle.operand.specs.Sized.{sizedOf};
 
 fn is_frame(h: Header, r: u8) -> bool
@@ -37,28 +38,32 @@ pub fn slot_base(h: Header, body: &[u8]) -> u8
     memory_base(body)
 }
 
-// The size of a number read as signed, and of its sum with a shift.
-fn full_size(v: u64) -> Sized
-    ensures { λ r. ⌜ r ≡ sizedOf (signedAt 64 v) ⌝ }
+// The displacement as it is added to a word register.
+fn word_displacement(body: &[u8]) -> i64
+    ensures { λ r. ⌜ r ≡ signedAt 16 (memoryAddress (now (body .entry))) ⌝ }
 {
-    size_of(signed_at(v, 0x8000_0000_0000_0000))
+    signed_at(memory_address(body) % 65536, 0x8000)
 }
 
-fn shifted_by(v: u64, by: i32) -> Sized
-    ensures { λ r. ⌜ r ≡ sizedOf (signedAt 64 v +ℤ by) ⌝ }
+// The displacement of a slot: all 64 bits, or the low 16 where it is added to a word register of 16-bit code.
+fn slot_displacement(h: Header, body: &[u8]) -> i64
+    ensures { λ r. ⌜ r ≡ slotDisplacement h (now (body .entry)) ⌝ }
 {
-    shifted(signed_at(v, 0x8000_0000_0000_0000), by)
+    if adds_to_word(h.bits, memory_base(body), memory_index(body)) {
+        return word_displacement(body);
+    }
+    signed_at(memory_address(body), 0x8000_0000_0000_0000)
 }
 
 pub fn slot_number(h: Header, body: &[u8]) -> Sized
     ensures { λ r. ⌜ r ≡ sizedOf (slotNumber h (now (body .entry))) ⌝ }
 {
-    let v = memory_address(body);
+    let d = slot_displacement(h, body);
     if is_shifted(h, body) {
         let by = h.shift;
-        return shifted_by(v, by);
+        return shifted(d, by);
     }
-    full_size(v)
+    size_of(d)
 }
 
 // By the frame register, or by the stack pointer and not below it.
@@ -66,25 +71,29 @@ pub fn is_slot(h: Header, body: &[u8]) -> bool
     ensures { λ b. ⌜ b ≡ isSlot h (now (body .entry)) ⌝ }
 {
     let base = slot_base(h, body);
-    let n = slot_number(h, body);
     let sp = is_stack_pointer(h.bits, base);
-    (memory_index(body) == 0) & !(sp & n.negative) & (is_frame(h, base) | sp)
+    if (memory_index(body) != 0) | !(is_frame(h, base) | sp) {
+        return false;
+    }
+    !(sp & slot_number(h, body).negative)
 }
 
-// The size of a number's low 32 bits, read as signed.
-fn low_size(v: u64) -> Sized
-    ensures { λ r. ⌜ r ≡ sizedOf (signedAt 32 v) ⌝ }
+// The displacement that an address prints: never shifted, by the width of the code or of the register it is added to.
+fn address_displacement(h: Header, body: &[u8]) -> i64
+    ensures { λ r. ⌜ r ≡ displacement h (now (body .entry)) ⌝ }
 {
-    size_of(signed_at(v % 4294967296, 0x8000_0000))
+    if adds_to_word(h.bits, memory_base(body), memory_index(body)) {
+        return word_displacement(body);
+    }
+    let v = memory_address(body);
+    if h.bits == 64 {
+        return signed_at(v, 0x8000_0000_0000_0000);
+    }
+    signed_at(v % 4294967296, 0x8000_0000)
 }
 
-// The displacement that an address prints: never shifted.
 pub fn displacement(h: Header, body: &[u8]) -> Sized
     ensures { λ r. ⌜ r ≡ sizedOf (displacement h (now (body .entry))) ⌝ }
 {
-    let v = memory_address(body);
-    if h.bits == 64 {
-        return full_size(v);
-    }
-    low_size(v)
+    size_of(address_displacement(h, body))
 }

@@ -31,9 +31,9 @@ headerOf s = record {
 abbrev pub headerFits : List ℕ → Bool
 headerFits s = leb 24 (length s)
 
--- "2. Bits, convention and shift mark as listed, and shift 0 if not given?"
+-- "2. Bits, convention and shift mark as listed, and shift 0 if not given?", and by #114 "2 now allows bits 16"
 abbrev pub fieldsOk : Header → Bool
-fieldsOk h = (eqb (h .bits) 32 || eqb (h .bits) 64)
+fieldsOk h = (eqb (h .bits) 16 || eqb (h .bits) 32 || eqb (h .bits) 64)
     && leb (h .convention) 1
     && leb (h .shifted) 1
     && (eqb (h .shifted) 1 || isZero (h .shift))

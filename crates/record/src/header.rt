@@ -44,7 +44,7 @@ pub fn read_header(s: &[u8]) -> Header
 pub fn fields_ok(h: Header) -> bool
     ensures { λ r. ⌜ r ≡ fieldsOk h ⌝ }
 {
-    ((h.bits == 32) | (h.bits == 64))
+    ((h.bits == 16) | (h.bits == 32) | (h.bits == 64))
         & (h.convention <= 1)
         & (h.shifted <= 1)
         & ((h.shifted == 1) | is_zero(h.shift))

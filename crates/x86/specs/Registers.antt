@@ -45,7 +45,10 @@ names-sized = refl
 unfoldable pub registerName : ℕ → List ℕ
 registerName r = pick (eqb r 0) (ascii "none") (getD (getD registerNames (r / 16) []) (r % 16) [])
 
--- dword and qword registers by index, and those that rules name
+-- word, dword and qword registers by index, and those that rules name
+abbrev pub word : ℕ → ℕ
+word i = 48 + i
+
 abbrev pub dword : ℕ → ℕ
 dword i = 64 + i
 

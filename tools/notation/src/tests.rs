@@ -143,7 +143,7 @@ fn with_lines(bits: u16, lines: &str) -> String {
     format!("bits {bits}\nconvention microsoft\nindent 1\n\nblock 1000\n{lines}")
 }
 
-/// The instruction of a line in code of 32 or 64 bits.
+/// The instruction of a line in code of 16, 32 or 64 bits.
 fn insn(bits: u16, line: &str) -> Insn {
     let text = with_lines(bits, &format!("1000: {line}\n"));
     assemble(text.as_bytes()).unwrap_or_else(|e| panic!("{line}: {}", e.what)).blocks[0].insns[0]
@@ -250,10 +250,59 @@ block 1000
   1000: or dword ptr [eax], -1
 ";
 
+const USUAL_16: &str = "bits 16
+convention microsoft
+frame bp
+indent 1
+
+block 1000
+  1000: push bp
+  1000: mov bp, sp
+  1000: sub sp, 0xa
+  1000: sub sp, 0x100
+  1000: mov ax, word ptr [bp+4]
+  1000: mov word ptr ss:[bp-2], ax
+  1000: mov word ptr [bp-4], 0xffff
+  1000: mov byte ptr [bx+si-1], 0xd
+  1000: lea dx, [bp+di-0x100]
+  1000: mov al, byte ptr es:[di]
+  1000: mov ax, word ptr [bx-0x8000]
+  1000: mov ax, word ptr [bx+0x7fff]
+  1000: mov ax, word ptr [0x3f8]
+  1000: mov dx, 0x3fd
+  1000: in al, dx
+  1000: out dx, al
+  1000: in al, 0x60
+  1000: out 0x60, al
+  1000: test al, 0x20
+  1000: test ax, 0x8000
+  1000: push 5
+  1000: push -1
+  1000: push 0x80
+  1000: push 0xfffe
+  1000: push ds
+  1000: push word ptr [bp+6]
+  1000: add sp, 4
+  1000: add cx, -2
+  1000: add cx, 0x80
+  1000: cmp ax, 0xff00
+  1000: and word ptr [si], -0x10
+  1000: mov eax, dword ptr [ebx+ecx*4-4]
+  1000: add eax, -1
+  1000: call 1010
+  1000: call word ptr [bx+2]
+  1000: loop 1010
+  1000: jcxz 1010
+  1000: int 0x21
+  1000: retf
+  1000: retf 4
+  1000: ret 4
+";
+
 /// They come back as they are, without fields but the skip mark.
 #[test]
 fn usual_lines() {
-    for text in [USUAL_64, USUAL_32] {
+    for text in [USUAL_64, USUAL_32, USUAL_16] {
         assert_eq!(is_exact(&assemble(text.as_bytes()).unwrap().to_bytes()), text);
     }
 }
@@ -297,6 +346,14 @@ fn fields_of_usual_lines() {
     assert_eq!(number(64, "push 5", 0), (9, 0, 5));
     assert_eq!(number(32, "push 5", 0), (8, 0, 5));
     assert_eq!(number(32, "push 0x402000", 0), (5, 0, 0x402000));
+    assert_eq!(number(16, "push 5", 0), (7, 0, 5));
+    assert_eq!(number(16, "push -2", 0), (7, 0, -2i64 as u64));
+    assert_eq!(number(16, "push 0x80", 0), (4, 0, 0x80));
+    assert_eq!(number(16, "push -0x81", 0), (4, 0, 0xff7f));
+    assert_eq!(number(16, "mov word ptr [bx], -2", 1), (4, 0, 0xfffe));
+    assert_eq!(number(16, "add cx, -2", 1), (7, 0, -2i64 as u64));
+    assert_eq!(number(16, "cmp word ptr [bp-2], 0x80", 1), (4, 0, 0x80));
+    assert_eq!(number(16, "retf 4", 0), (4, 0, 4));
     assert_eq!(number(64, "ret 8", 0), (4, 0, 8));
     assert_eq!(number(64, "call 402000", 0), (2, 0, 0x402000));
     assert_eq!(number(64, "xor eax, near 10", 1), (2, 0, 0x10));
@@ -308,6 +365,10 @@ fn fields_of_usual_lines() {
     assert_eq!(insn(32, "mov eax, dword ptr [ebp-4]").memory, 0xffff_fffc);
     assert_eq!(insn(64, "mov eax, dword ptr [rbp-4]").memory, -4i64 as u64);
     assert_eq!(insn(32, "mov eax, dword ptr [bp-4]").memory, 0xfffc);
+    assert_eq!(insn(16, "mov ax, word ptr [bp-4]").memory, 0xfffc);
+    assert_eq!(insn(16, "mov ax, word ptr [bx+si-2]").memory, 0xfffe);
+    assert_eq!(insn(16, "mov ax, word ptr [si*1-2]").memory, 0xfffe);
+    assert_eq!(insn(16, "mov ax, word ptr [ebx-4]").memory, 0xffff_fffc);
     assert_eq!(insn(64, "lea rax, [rel 402000]").base, r::RIP);
     let jnz = insn(64, "jnz 1010");
     assert_eq!((jnz.mnemonic, jnz.condition, &jnz.name[..4]), (0, 6, &b"jnz\0"[..]));
@@ -453,6 +514,7 @@ const ABOUT_INSTRUCTIONS: &[(&str, &str)] = &[
     ("1000: mov eax, dword ptr [8+rax]", "an address with registers is written `[REGISTER+NUMBER]`"),
     ("1000: mov eax, dword ptr [rip+8]", "an address relative to rip is written `[rel ADDRESS]`, with the address itself"),
     ("1000: mov eax, dword ptr [eax-0x80000001]", "-0x80000001 is too far for registers of 4 bytes"),
+    ("1000: mov ax, word ptr [bx+si-0x8001]", "-0x8001 is too far for registers of 2 bytes"),
     ("1000: mov dword ptr [rax], dword ptr [rcx]", "two memory operands that differ: a record has room for one"),
     ("1000: nop #flag 1", "`#flag` is no field of an instruction"),
     ("1000: nop # 1", "`#` is no field of an instruction"),

@@ -22,7 +22,7 @@ impl Setting<'_> {
     fn kinds(&self) -> &'static [u8] {
         match (self.mnemonic, self.width) {
             ("shl" | "shr" | "sar" | "rol" | "ror" | "bt", _) => &[kind::IMM8],
-            ("ret", _) => &[IMM16],
+            ("ret" | "retf", _) => &[IMM16],
             ("push", _) => extended(self.bits / 8),
             ("mov", 8) => &[kind::IMM32TO64, IMM64],
             ("test", 8) => &[kind::IMM32TO64],

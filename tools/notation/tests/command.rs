@@ -31,7 +31,7 @@ fn both_ways() {
 
 #[test]
 fn a_refused_record() {
-    let record = run(&["assemble", "-"], TEXT.replace("64", "16").as_bytes());
+    let record = run(&["assemble", "-"], TEXT.replace("64", "48").as_bytes());
     let note = "-: note: the listing will be `no 2` (docs/READING.md says why)\n";
     assert_eq!((record.status.code(), record.stdout.len(), told(&record)), (Some(0), 136, note));
     let text = run(&["dump", "-"], &record.stdout);

@@ -189,7 +189,7 @@ pub fn pieces(seed: u64, count: usize) -> Result<bool, String> {
     let mut rng = Rng::new(seed);
     let mut tally = Tally::new("pieces");
     let mut forms = BTreeSet::new();
-    let (mut instructions, mut departing) = (0, 0);
+    let (mut instructions, mut departing, mut of_16) = (0, 0, 0);
     while instructions < count {
         let call = damage::valid_call(&mut rng);
         let record = Record::parse(&call.bytes);
@@ -198,6 +198,7 @@ pub fn pieces(seed: u64, count: usize) -> Result<bool, String> {
             let theirs = (port.piece_tokens)(&call.bytes, first, at, what);
             tally.compared += 1;
             departing += usize::from(amended);
+            of_16 += usize::from(amended && record.bits == 16);
             forms.insert(tokens.form());
             if tokens != theirs {
                 tally.differs(&call, || format!("instruction {at}, piece {what}: the Rust {tokens}, the port {theirs}"))?;
@@ -205,7 +206,7 @@ pub fn pieces(seed: u64, count: usize) -> Result<bool, String> {
         }
     }
     println!("  {instructions} instructions, {} distinct forms", forms.len());
-    print_amended("pieces", departing, tally.compared);
+    print_amended("pieces", departing, of_16, tally.compared);
     Ok(tally.end())
 }
 
@@ -230,7 +231,7 @@ pub fn lines(seed: u64, count: usize) -> Result<bool, String> {
         }
     }
     forms.print()?;
-    print_amended("lines", seen.amended, seen.lines);
+    print_amended("lines", seen.amended, seen.amended_16, seen.lines);
     Ok(tally.end())
 }
 
@@ -251,9 +252,13 @@ pub fn whole(seed: u64, count: usize) -> Result<bool, String> {
     Ok(tally.end())
 }
 
-/// How many were compared with the amended Rust, and how many with the unchanged one.
-fn print_amended(what: &str, amended: usize, all: usize) {
-    println!("  {what}: {amended} against the amended Rust, {} against the unchanged one", all - amended);
+/// How many were compared with the amended Rust, of records with bits 16 and of others, and how many with the unchanged one.
+fn print_amended(what: &str, amended: usize, of_16: usize, all: usize) {
+    let others = amended - of_16;
+    println!(
+        "  {what}: {amended} against the amended Rust ({of_16} with bits 16, {others} others), {} against the unchanged one",
+        all - amended
+    );
 }
 
 /// Call `n` of the listing comparison: valid, and now and then damaged.
@@ -371,6 +376,7 @@ fn is_sane(call: &Call, seen: &mut Seen) -> Result<(), String> {
 struct Seen {
     lines: usize,
     amended: usize,
+    amended_16: usize,
     longest: usize,
     most_lines: usize,
     most_tokens: usize,
@@ -385,6 +391,7 @@ impl Seen {
         use listing::Origin::*;
         self.lines += listing.lines();
         self.amended += listing.amended;
+        self.amended_16 += listing.amended_16;
         self.most_lines = self.most_lines.max(listing.lines());
         self.longest = self.longest.max(listing.text.len());
         self.most_tokens = self.most_tokens.max(listing.token_ends.len());
@@ -400,7 +407,7 @@ impl Seen {
     }
 
     fn print(&self) {
-        print_amended("lines", self.amended, self.lines);
+        print_amended("lines", self.amended, self.amended_16, self.lines);
         println!("  lines {}, labels {}, do-loops {}, if-regions {}", self.lines, self.labels, self.dos, self.ifs);
         println!(
             "  at most: {} lines, {} tokens, {} text bytes in a listing, indent {}",

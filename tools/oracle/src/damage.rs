@@ -122,7 +122,8 @@ fn get_u64(call: &Call, at: usize) -> u64 {
 fn settings(rng: &mut Rng, call: &mut Call) {
     match rng.below(4) {
         0 => {
-            let bits = rng.pick(&[0, 1, 8, 16, 31, 33, 63, 65, 128, 32 + 256, 64 + 256, 0x2000, 0x4000, 0xffff]);
+            let bits =
+                rng.pick(&[0, 1, 8, 15, 17, 31, 33, 63, 65, 128, 16 + 256, 32 + 256, 64 + 256, 0x1000, 0x2000, 0x4000, 0xffff]);
             put_u16(call, 0, bits);
         }
         1 => {

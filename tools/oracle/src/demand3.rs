@@ -124,7 +124,7 @@ fn is_silent(range: &Range, regions: &Regions, place: usize, n: usize) -> bool {
     if insn.mnemonic == m::JMP && near {
         return !last || in_loop.is_some() || goes_on(range, regions, place, insn);
     }
-    insn.skip == 1 || is_noise(insn, range.record.frame) || matches!(insn.mnemonic, m::CMP | m::TEST | m::PUSH | 32..=35)
+    insn.skip == 1 || is_noise(insn, range.record) || matches!(insn.mnemonic, m::CMP | m::TEST | m::PUSH | 32..=35)
 }
 
 /// A jump to the next block when that lies in the range being written.
@@ -134,16 +134,16 @@ fn goes_on(range: &Range, regions: &Regions, place: usize, jump: &Insn) -> bool 
     place + 1 < end && range.record.blocks[place + 1].start == jump.operands[0].number
 }
 
-/// `is_prologue_noise`, from the record's numbers.
-fn is_noise(insn: &Insn, frame: u16) -> bool {
-    let stack = |n: u8| n == r::RSP || n == r::ESP;
+/// `is_prologue_noise`, from the record's numbers; #114: with bits 16 "sp counts as a stack pointer wherever rsp and esp do".
+fn is_noise(insn: &Insn, record: &Record) -> bool {
+    let stack = |n: u8| n == r::RSP || n == r::ESP || record.bits == 16 && n == r::SP;
     let register = |k: usize| (insn.operands[k].kind == kind::REGISTER).then_some(insn.operands[k].register);
     let to = register(0);
     match insn.mnemonic {
         m::PUSH | m::POP => to.is_some_and(is_saved),
         m::SUB | m::ADD => to.is_some_and(stack) && register(1).is_none(),
         m::MOV => {
-            let copies = to.is_some_and(|n| n != 0 && u16::from(n) == frame) && register(1).is_some_and(stack);
+            let copies = to.is_some_and(|n| n != 0 && u16::from(n) == record.frame) && register(1).is_some_and(stack);
             copies || to.is_some_and(stack)
         }
         m::LEA => to.is_some_and(stack),

@@ -9,16 +9,24 @@ const FLAG_WRITERS: [u8; 15] =
 /// e, ne, s and ns. Each is turned into one of them.
 const ZERO_AND_SIGN: [u8; 4] = [5, 6, 9, 10];
 
+/// #114: "The Rust has none of this, so demand 2 leaves bits 16 out": every line and piece of such a record departs.
+pub fn whole(record: &Record) -> bool {
+    record.bits == 16
+}
+
 /// #106: "negative 8to16 numbers leave the comparison with the Rust". "The span rule still comes first": one that is a name stays.
 pub fn operand(record: &Record, operand: &Operand) -> bool {
     let n = operand.number;
     let is_name = n >= 0x1000 && record.spans.iter().any(|(first, last)| (*first..=*last).contains(&n));
-    operand.kind == kind::IMM8TO16 && (-4096..0).contains(&(n as u16 as i16)) && !is_name
+    whole(record) || operand.kind == kind::IMM8TO16 && (-4096..0).contains(&(n as u16 as i16)) && !is_name
 }
 
 /// What a condition prints: #104, after BT or IMUL as the nearest flag writer "the conditions e, ne, s and ns now print the `__flags_` word";
 /// #106, of the writer's operands. `insns` are those of the block before the instruction that tests the condition.
 pub fn condition(record: &Record, insns: &[Insn], condition: u8) -> bool {
+    if whole(record) {
+        return true;
+    }
     let Some(writer) = insns.iter().rfind(|i| FLAG_WRITERS.contains(&i.mnemonic)) else { return false };
     let no_relation = ZERO_AND_SIGN.contains(&condition) && [m::BT, m::IMUL].contains(&writer.mnemonic);
     no_relation || writer.operands.iter().any(|o| operand(record, o))
@@ -28,6 +36,9 @@ pub fn condition(record: &Record, insns: &[Insn], condition: u8) -> bool {
 pub fn lines(record: &Record) -> Vec<bool> {
     let pushed = record.insns().any(|i| i.mnemonic == m::PUSH && operand(record, &i.operands[0]));
     let departs = |before: &[Insn], i: &Insn| {
+        if whole(record) {
+            return true;
+        }
         let calls = pushed && [m::CALL, m::JMP].contains(&i.mnemonic);
         calls || i.operands.iter().any(|o| operand(record, o)) || i.condition != 0 && condition(record, before, i.condition)
     };

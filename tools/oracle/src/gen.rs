@@ -3,6 +3,7 @@
 mod atlas;
 mod flow;
 mod insns;
+mod real;
 
 use crate::record::{edge, kind, mnemonic as m, name, register as r, Block, Edge, Entry, Insn, Operand, Record};
 use crate::rng::Rng;
@@ -65,9 +66,25 @@ pub fn valid(rng: &mut Rng) -> Record {
     }
 }
 
+/// Now and then with bits 16.
 fn sized(rng: &mut Rng, size: Size) -> Record {
+    let bits = match rng.below(100) {
+        0..=64 => 64,
+        65..=84 => 32,
+        _ => 16,
+    };
+    of_bits(rng, bits, size)
+}
+
+/// Without bits 16, which the Rust does not have: for the benchmark, where the port and the Rust list the same.
+fn wide(rng: &mut Rng, size: Size) -> Record {
+    let bits = if rng.percent(65) { 64 } else { 32 };
+    of_bits(rng, bits, size)
+}
+
+fn of_bits(rng: &mut Rng, bits: u16, size: Size) -> Record {
     let mut record = Record {
-        bits: if rng.percent(65) { 64 } else { 32 },
+        bits,
         convention: rng.below(2) as u16,
         indent: if rng.percent(70) { 1 } else { rng.range(0, LIMIT_INDENT) as u8 },
         ..Record::default()
@@ -142,7 +159,7 @@ fn long_atlas(mut total: usize) -> Vec<Entry> {
 
 /// Exactly at each limit.
 pub fn at_limits(rng: &mut Rng) -> Record {
-    let mut record = sized(rng, Size { blocks: (LIMIT_B, LIMIT_B), insns: 2, atlas: 0, spans: 0 });
+    let mut record = wide(rng, Size { blocks: (LIMIT_B, LIMIT_B), insns: 2, atlas: 0, spans: 0 });
     fill_to(rng, &mut record, LIMIT_I, LIMIT_E);
     record.atlas =
         (0..LIMIT_A as u64).map(|n| Entry { address: n * n * 16, kind: 1 + (n % 3) as u8, text: vec![b'a'; 20] }).collect();
@@ -180,14 +197,14 @@ pub fn one_block(rng: &mut Rng) -> Record {
 
 /// Straight code: one block of 200 instructions.
 pub fn straight(rng: &mut Rng) -> Record {
-    let mut record = sized(rng, Size { blocks: (1, 1), insns: 1, atlas: 8, spans: 3 });
+    let mut record = wide(rng, Size { blocks: (1, 1), insns: 1, atlas: 8, spans: 3 });
     fill_to(rng, &mut record, 200, 0);
     record
 }
 
 /// A routine of about 40 blocks and 200 instructions.
 pub fn flow_rich(rng: &mut Rng) -> Record {
-    let mut record = sized(rng, Size { blocks: (38, 42), insns: 4, atlas: 12, spans: 3 });
+    let mut record = wide(rng, Size { blocks: (38, 42), insns: 4, atlas: 12, spans: 3 });
     fill_to(rng, &mut record, 200, 0);
     record
 }
@@ -204,7 +221,7 @@ pub fn pushes(rng: &mut Rng) -> Record {
 
 /// 500 instructions that name addresses of a full atlas.
 pub fn named(rng: &mut Rng) -> Record {
-    let mut record = sized(rng, Size { blocks: (1, 1), insns: 1, atlas: 0, spans: 0 });
+    let mut record = wide(rng, Size { blocks: (1, 1), insns: 1, atlas: 0, spans: 0 });
     record.atlas =
         (0..LIMIT_A as u64).map(|n| Entry { address: 0x5000 + n * 16, kind: 1 + (n % 3) as u8, text: vec![b'a'; 20] }).collect();
     record.spans = (0..LIMIT_S as u64).map(|n| (0x5000 + n * 100, 0x5000 + n * 100 + 99)).collect();
@@ -240,7 +257,7 @@ pub fn repeated(blocks: usize) -> Record {
 fn wordy(rng: &mut Rng) -> Record {
     let text = vec![rng.pick(b"a\x7f\"\x01"); 130];
     let mut record = Record {
-        bits: rng.pick(&[32, 64]),
+        bits: rng.pick(&[16, 32, 64]),
         atlas: vec![Entry { address: 0x5000, kind: rng.pick(&[1, 2, 3]), text: vec![b'n'; 130] }],
         spans: vec![(0x5000, 0x5fff)],
         blocks: vec![Block { start: 0x1000, ..Block::default() }],
@@ -291,6 +308,7 @@ fn world(record: &Record, starts: Vec<u64>) -> World {
 fn choose_frame(rng: &mut Rng, record: &mut Record) {
     let wide = record.bits == 64;
     record.frame = match rng.below(10) {
+        _ if record.bits == 16 => real::frame(rng).into(),
         0..=3 => 0,
         4..=6 => (if wide { r::RBP } else { r::EBP }).into(),
         7 => {

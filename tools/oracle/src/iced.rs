@@ -17,6 +17,8 @@ const SEGMENTS: [&str; 6] = ["ES", "CS", "SS", "DS", "FS", "GS"];
 
 impl Register {
     pub const None: Register = Register(0);
+    /// Asked for by the amended Rust alone.
+    pub const SP: Register = Register(52);
     pub const EAX: Register = Register(64);
     pub const ECX: Register = Register(65);
     pub const EDX: Register = Register(66);
@@ -56,6 +58,11 @@ impl Register {
 
     fn index(self) -> usize {
         (self.0 % 16) as usize
+    }
+
+    /// ax to r15w. Asked by the amended Rust alone.
+    pub fn is_gpr16(self) -> bool {
+        self.class() == 3
     }
 
     /// The 64-bit register that holds this one.

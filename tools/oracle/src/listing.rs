@@ -28,6 +28,8 @@ pub struct Listing {
     pub origins: Vec<Origin>,
     /// How many lines a request of document 02 leaves to the amended Rust.
     pub amended: usize,
+    /// How many of these are of a record with bits 16.
+    pub amended_16: usize,
 }
 
 /// What a line was written for: a block by its place, an instruction by its number.
@@ -68,7 +70,7 @@ pub fn refusal(number: u8) -> Vec<u8> {
 }
 
 pub fn list_record(record: &Record, from: usize, to: usize) -> Result<Listing, String> {
-    lines_of(record, || with_amended(record, emitter::run(record, from, to), plain(amended::run(record, from, to))))
+    lines_of(record, || with_amended(record, || emitter::run(record, from, to), plain(amended::run(record, from, to))))
 }
 
 /// The unchanged Rust's listing, which its mutants are compared with.
@@ -78,7 +80,7 @@ pub fn unchanged(record: &Record, from: usize, to: usize) -> Result<Listing, Str
 
 /// The first block's instructions, without structure.
 pub fn list_insns(record: &Record) -> Result<Listing, String> {
-    lines_of(record, || with_amended(record, emitter::insns(record), plain(amended::insns(record))))
+    lines_of(record, || with_amended(record, || emitter::insns(record), plain(amended::insns(record))))
 }
 
 /// The amended Rust's lines as the emitter's.
@@ -86,8 +88,23 @@ fn plain((lines, tag): (Vec<amended::PseudoLine>, u64)) -> (Vec<PseudoLine>, u64
     (lines.into_iter().map(|l| PseudoLine { address: l.address, indent: l.indent, tokens: l.tokens }).collect(), tag)
 }
 
-/// The Rust's lines, with the amended one's in the place of those that depart.
-fn with_amended(record: &Record, (rust, tag): (Vec<PseudoLine>, u64), amended: (Vec<PseudoLine>, u64)) -> (Vec<PseudoLine>, u64) {
+/// The amended Rust's listing alone, to see where the merged one differs from it.
+#[cfg(test)]
+pub fn amended_alone(record: &Record, from: usize, to: usize) -> Result<Listing, String> {
+    lines_of(record, || plain(amended::run(record, from, to)))
+}
+
+/// The Rust's lines, with the amended one's in the place of those that depart; all of them where a whole record does, since other
+/// instructions are silent there.
+fn with_amended(
+    record: &Record,
+    rust: impl Fn() -> (Vec<PseudoLine>, u64),
+    amended: (Vec<PseudoLine>, u64),
+) -> (Vec<PseudoLine>, u64) {
+    if departures::whole(record) {
+        return amended;
+    }
+    let (rust, tag) = rust();
     let departs = departures::lines(record);
     let taken = |l: &PseudoLine| l.address.is_some_and(|a| a >> 48 == tag >> 48 && departs[(a - tag) as usize]);
     assert_eq!(rust.len(), amended.0.len(), "an amendment changes the number of lines");
@@ -150,6 +167,10 @@ fn lists(record: &Record, lines: &[PseudoLine], tag: u64) -> Listing {
         out.line_marks.push(line.indent as u16 + if line.address.is_some() { 256 } else { 0 });
         out.line_ends.push(out.token_ends.len() as u32);
         out.origins.push(origin);
+    }
+    if departures::whole(record) {
+        out.amended = out.lines();
+        out.amended_16 = out.lines();
     }
     out
 }

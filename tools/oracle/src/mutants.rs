@@ -5,6 +5,7 @@ use std::collections::BTreeSet;
 
 use crate::compare::listing_call;
 use crate::damage::Call;
+use crate::departures;
 use crate::emitter::PseudoLine;
 use crate::listing;
 use crate::questions;
@@ -59,8 +60,13 @@ fn print_replay() -> Result<(), String> {
 fn first_noticed(calls: impl Iterator<Item = Call>) -> Result<Vec<Option<usize>>, String> {
     let mut noticed = vec![None; MUTANTS.len()];
     for (n, call) in calls.enumerate() {
-        if questions::first_no(&call.bytes, call.from, call.to) == 0 {
-            notice(&Record::parse(&call.bytes), call.from, call.to, n, &mut noticed)?;
+        if questions::first_no(&call.bytes, call.from, call.to) != 0 {
+            continue;
+        }
+        let record = Record::parse(&call.bytes);
+        // The port is not compared with the unchanged Rust there.
+        if !departures::whole(&record) {
+            notice(&record, call.from, call.to, n, &mut noticed)?;
         }
     }
     Ok(noticed)

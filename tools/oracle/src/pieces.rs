@@ -78,14 +78,14 @@ pub fn all(record: &Record) -> Vec<Piece> {
             amended: departs[at],
         }));
     };
-    let none = vec![false; firsts.len()];
+    let whole = vec![departures::whole(record); firsts.len()];
     let slots = operands(record);
     for k in 0..5 {
         let departs: Vec<bool> = record.insns().map(|i| departures::operand(record, &i.operands[k])).collect();
         add(k as u8, slots.iter().map(|s| s[k].clone()).collect(), &departs);
     }
-    add(READ, memory(record, true), &none);
-    add(ADDRESS, memory(record, false), &none);
+    add(READ, memory(record, true), &whole);
+    add(ADDRESS, memory(record, false), &whole);
     for c in 1..=16 {
         add(CONDITIONS + c, conditions(record, c), &departing(record, c));
     }
@@ -114,7 +114,8 @@ pub fn operands(record: &Record) -> Vec<[Tokens; 5]> {
 
 /// Every instruction's memory operand, read, or as the address that `lea` prints.
 pub fn memory(record: &Record, read: bool) -> Vec<Tokens> {
-    emitter::memory(record, read).iter().map(|t| Tokens::new(t)).collect()
+    let tokens = if departures::whole(record) { amended::memory(record, read) } else { emitter::memory(record, read) };
+    tokens.iter().map(|t| Tokens::new(t)).collect()
 }
 
 /// For each instruction whether a condition that it tests departs.

@@ -96,7 +96,7 @@ fn has_header(q: &Asked) -> bool {
 
 // 2. Bits, convention and shift mark as listed, and shift 0 if not given?
 fn has_known_settings(q: &Asked) -> bool {
-    let bits = q.u16(0) == 32 || q.u16(0) == 64;
+    let bits = matches!(q.u16(0), 16 | 32 | 64);
     let convention = q.u16(2) <= 1;
     let mark = q.u8(20);
     let shift_is_zero = (16..20).all(|at| q.u8(at) == 0);

@@ -46,6 +46,7 @@ pub mod kind {
     pub const MEMORY: u8 = 1;
     pub const NEAR: u8 = 2;
     pub const IMM8: u8 = 3;
+    pub const IMM16: u8 = 4;
     pub const IMM32: u8 = 5;
     pub const IMM8TO16: u8 = 7;
     pub const IMM32TO64: u8 = 10;
@@ -67,7 +68,15 @@ pub mod register {
     pub const AL: u8 = 16;
     pub const AH: u8 = 32;
     pub const AX: u8 = 48;
+    pub const CX: u8 = 49;
+    pub const DX: u8 = 50;
+    pub const BX: u8 = 51;
+    pub const SP: u8 = 52;
+    pub const BP: u8 = 53;
+    pub const SI: u8 = 54;
+    pub const DI: u8 = 55;
     pub const EAX: u8 = 64;
+    pub const EBX: u8 = 67;
     pub const ESP: u8 = 68;
     pub const EBP: u8 = 69;
     pub const RAX: u8 = 80;
@@ -76,6 +85,9 @@ pub mod register {
     pub const RBP: u8 = 85;
     pub const EIP: u8 = 96;
     pub const RIP: u8 = 97;
+    pub const ES: u8 = 112;
+    pub const CS: u8 = 113;
+    pub const SS: u8 = 114;
     pub const DS: u8 = 115;
     pub const FS: u8 = 116;
     pub const GS: u8 = 117;

@@ -1,4 +1,4 @@
-//! Document 01's example and cases, on the unchanged Rust.
+//! Document 01's example and cases, on the unchanged Rust, and document 02's departures, on the amended one.
 
 use crate::listing::list;
 use crate::record::{edge, example, kind, mnemonic as m, name, register as r, Block, Edge, Entry, Insn, Operand, Record};
@@ -220,7 +220,7 @@ fn pieces_of_the_example() {
     );
 }
 
-/// The amended Rust prints otherwise only where a request is said to depart, and an operand always where one is.
+/// With bits 32 and 64 the amended Rust prints otherwise only where a request is said to depart, and an operand always where one is.
 #[test]
 fn amended_where_a_request_departs() {
     use crate::departures::{condition, operand};
@@ -230,6 +230,9 @@ fn amended_where_a_request_departs() {
     let mut unlike = [0; 2];
     for _ in 0..500 {
         let record = Record::parse(&crate::damage::valid_call(&mut rng).bytes);
+        if record.bits == 16 {
+            continue;
+        }
         for ((rust, amended), i) in emitter::operands(&record).iter().zip(&amended::operands(&record)).zip(record.insns()) {
             for k in 0..5 {
                 assert_eq!(text(&rust[k]) != text(&amended[k]), operand(&record, &i.operands[k]));
@@ -249,6 +252,199 @@ fn amended_where_a_request_departs() {
     assert!(unlike[0] > 100 && unlike[1] > 1000, "{unlike:?}");
 }
 
+/// With bits 32 and 64 #114 changes nothing: memory operands are the unchanged Rust's, and so is every line but those that #104 and #106
+/// depart on, which the merged listing has from the amended one.
+#[test]
+fn bits_16_alone_change_the_rest() {
+    use crate::{amended, emitter, listing};
+    let mut rng = crate::rng::Rng::new(5);
+    let mut lines = 0;
+    for _ in 0..2000 {
+        let call = crate::damage::valid_call(&mut rng);
+        let record = Record::parse(&call.bytes);
+        if record.bits == 16 {
+            continue;
+        }
+        for read in [true, false] {
+            let both = emitter::memory(&record, read).into_iter().zip(amended::memory(&record, read));
+            both.for_each(|(rust, amended)| assert!(rust.iter().map(|t| &t.t).eq(amended.iter().map(|t| &t.t))));
+        }
+        let merged = listing::list_record(&record, call.from, call.to).unwrap();
+        let amended = listing::amended_alone(&record, call.from, call.to).unwrap();
+        assert_eq!(merged.difference(&amended), None);
+        assert_eq!(merged.amended_16, 0);
+        lines += merged.lines();
+    }
+    assert!(lines > 10_000, "{lines}");
+}
+
+/// A block of 16-bit code with this frame register.
+fn real(frame: u8, insns: Vec<Insn>) -> Record {
+    Record { bits: 16, frame: frame.into(), ..one_block(insns) }
+}
+
+/// The source of `eax = [base+disp]` of two bytes in 16-bit code.
+fn real_mem(frame: u8, base: u8, disp: u64) -> String {
+    source_in(real(frame, vec![]), mov_mem(base, disp, 2))
+}
+
+#[test]
+fn bits_16_ax() {
+    let call = insn(m::CALL, &[imm(kind::NEAR, 0x2000)]);
+    let cmpxchg = Insn { base: r::BX, size: 2, ..insn(m::CMPXCHG, &[MEM, reg(r::CX)]) };
+    let ret = insn(m::RET, &[]);
+    assert_eq!(
+        lines(&real(0, vec![call, cmpxchg, ret])),
+        ["ax = sub_2000();", "ax = _InterlockedCompareExchange(&*(uint16_t *)bx, cx, ax);", "return ax;"]
+    );
+    assert_eq!(lines(&real(0, vec![insn(m::MOV, &[reg(r::CX), reg(r::DX)]), ret])), ["cx = dx;", "return;"]);
+    // "All else is as with 32 bits."
+    assert_eq!(lines(&real(0, vec![insn(30, &[]), insn(31, &[])])), ["rax = __rdtsc();", "__cpuid(eax, ecx);"]);
+}
+
+#[test]
+fn bits_16_pushes() {
+    let pushes = [imm(kind::IMM8TO16, 0xfffe), reg(r::AX), MEM, reg(r::SI)].map(|o| insn(m::PUSH, &[o]));
+    let mut insns = pushes.to_vec();
+    insns[2] = Insn { base: r::BP, memory: 4, size: 2, ..insns[2] };
+    insns.push(insn(m::MOV, &[reg(r::CX), imm(kind::IMM16, 7)]));
+    insns.push(insn(m::CALL, &[imm(kind::NEAR, 0x2000)]));
+    let call = "ax = sub_2000(arg_4, ax, -2);";
+    assert_eq!(lines(&real(r::BP, insns.clone())), ["cx = 7;", call]);
+    insns.last_mut().unwrap().mnemonic = m::JMP;
+    insns.last_mut().unwrap().operands[0] = MEM;
+    assert_eq!(lines(&real(r::BP, insns)), ["cx = 7;", "return unk_0(arg_4, ax, -2);"]);
+}
+
+#[test]
+fn bits_16_slots() {
+    assert_eq!(
+        [0xfffc, 4, 0x7fff, 0x8000, 0x1_0004, 0xdead_fffc].map(|d| real_mem(r::BP, r::BP, d)),
+        ["var_4", "arg_4", "arg_7FFF", "var_8000", "arg_4", "var_4"]
+    );
+    assert_eq!([4, 0, 0x1_0004].map(|d| real_mem(0, r::SP, d)), ["var_4", "var_0", "var_4"]);
+    assert_eq!(real_mem(0, r::SP, 0xfffc), "*(uint16_t *)(sp - 4)");
+    assert_eq!(real_mem(r::SP, r::SP, 4), "var_4");
+    assert_eq!([4, 0xfffc].map(|d| real_mem(r::SI, r::SI, d)), ["arg_4", "var_4"]);
+    // esp and rsp are stack pointers at every width, and their displacements are read as with 32 bits.
+    assert_eq!([r::ESP, r::RSP].map(|base| real_mem(0, base, 0xfffc)), ["var_FFFC"; 2]);
+    assert_eq!([0xfffc, -4i64 as u64].map(|d| real_mem(r::EBP, r::EBP, d)), ["arg_FFFC", "var_4"]);
+}
+
+#[test]
+fn bits_16_addresses() {
+    let pair = |base: u8, index: u8, disp: u64| source_in(real(r::BP, vec![]), Insn { index, ..mov_mem(base, disp, 2) });
+    assert_eq!(pair(r::BX, r::SI, 0xfffe), "*(uint16_t *)((bx + si) - 2)");
+    assert_eq!(pair(r::BP, r::DI, 0x8000), "*(uint16_t *)((bp + di) - 0x8000)");
+    assert_eq!(pair(r::BX, r::DI, 0x7_7fff), "*(uint16_t *)((bx + di) + 0x7fff)");
+    assert_eq!(pair(r::BX, 0, 0x1_0000), "*(uint16_t *)bx");
+    // A word register as base or index suffices; without one an address has 32 bits.
+    assert_eq!(pair(r::EBX, r::SI, 0xfffe), "*(uint16_t *)((ebx + si) - 2)");
+    assert_eq!(pair(0, r::SI, 0xfffe), "*(uint16_t *)(si - 2)");
+    assert_eq!([0xfffe, 0xffff_fffe].map(|d| pair(r::EBX, 0, d)), ["*(uint16_t *)(ebx + 0xfffe)", "*(uint16_t *)(ebx - 2)"]);
+    // A segment register is no word register, and an absolute address is added to none.
+    assert_eq!(pair(r::DS, 0, 0xfffe), "*(uint16_t *)(ds + 0xfffe)");
+    assert_eq!(pair(0, 0, 0xfffe), "word_FFFE");
+    assert_eq!(source_in(real(0, vec![]), Insn { segment: r::FS, ..mov_mem(0, 0xfffe, 4) }), "__readfsdword(0xfffe)");
+    let lea = Insn { base: r::BX, index: r::SI, memory: 0xfffe, ..insn(m::LEA, &[reg(r::AX), MEM]) };
+    assert_eq!(lines(&real(0, vec![lea])), ["ax = (bx + si) - 2;"]);
+}
+
+#[test]
+fn bits_16_shift_puts_sp() {
+    let shifted = |frame: u8, shift: i32, disp: u64| {
+        let record = Record { shift, shift_given: 1, ..real(frame, vec![]) };
+        source_in(record, mov_mem(frame, disp, 2))
+    };
+    assert_eq!(shifted(r::BP, 0x20, 0xfffc), "var_1C");
+    assert_eq!(shifted(r::BP, 0x20, 0xffd0), "*(uint16_t *)(sp - 0x30)");
+    assert_eq!(shifted(r::BP, -8, 4), "*(uint16_t *)(sp + 4)");
+    // Whatever the frame register's width; the recorded base says how the displacement is read.
+    assert_eq!(shifted(r::EBP, 0x20, 0xfffc), "var_1001C");
+    assert_eq!(shifted(r::EBP, 0x20, 0xffff_ffff_ffff_ffd0), "*(uint16_t *)(sp - 0x30)");
+    assert_eq!(shifted(r::RBP, -0x20, 4), "*(uint16_t *)(sp + 4)");
+    // With 32 bits it is esp.
+    let wide = Record { bits: 32, shift: -8, shift_given: 1, ..real(r::BP, vec![]) };
+    assert_eq!(source_in(wide, mov_mem(r::BP, 4, 2)), "*(uint16_t *)(esp + 4)");
+}
+
+/// What sets up and takes down a frame by sp, and what is then left of it.
+#[test]
+fn bits_16_noise() {
+    let lea = Insn { base: r::BP, memory: 0xfffc, ..insn(m::LEA, &[reg(r::SP), MEM]) };
+    let insns = vec![
+        insn(m::PUSH, &[reg(r::BP)]),
+        insn(m::MOV, &[reg(r::BP), reg(r::SP)]),
+        insn(m::SUB, &[reg(r::SP), imm(kind::IMM8TO16, 4)]),
+        insn(m::ADD, &[reg(r::SP), imm(kind::IMM8TO16, 4)]),
+        insn(m::MOV, &[reg(r::SP), reg(r::BP)]),
+        lea,
+        insn(m::POP, &[reg(r::BP)]),
+    ];
+    assert_eq!(lines(&real(r::BP, insns.clone())), [""; 0]);
+    // The frame register alone is set silently, and a register is not taken off sp silently.
+    let shown = vec![insns[1], insn(m::SUB, &[reg(r::SP), reg(r::AX)])];
+    assert_eq!(lines(&real(0, shown)), ["bp = sp;", "sp -= ax;"]);
+    // sp is no stack pointer with 32 bits.
+    let wide = Record { bits: 32, ..real(r::BP, insns) };
+    assert_eq!(lines(&wide), ["bp = sp;", "sp -= 4;", "sp += 4;", "sp = bp;", "sp = &arg_FFFC;"]);
+    let word = |bits: u16| source_in(Record { bits, ..real(0, vec![]) }, mov_mem(r::SP, 4, 2));
+    assert_eq!([16, 32, 64].map(word), ["var_4", "*(uint16_t *)(sp + 4)", "*(uint16_t *)(sp + 4)"]);
+}
+
+/// Pieces and lines of 16-bit code are all the amended Rust's, and counted so.
+#[test]
+fn bits_16_depart_as_a_whole() {
+    let record = real(r::BP, vec![mov_mem(r::BP, 0xfffc, 2), insn(m::MOV, &[reg(r::SP), reg(r::BP)]), insn(m::RET, &[])]);
+    let text = |read: bool| String::from_utf8(crate::pieces::memory(&record, read)[0].text.clone()).unwrap();
+    assert_eq!([true, false].map(text), ["var_4", "&var_4"]);
+    let pieces = crate::pieces::all(&record);
+    assert!(!pieces.is_empty() && pieces.iter().all(|p| p.amended));
+    let listing = list(&record.to_bytes(), 0, 1).unwrap();
+    assert_eq!((listing.lines(), listing.amended, listing.amended_16), (2, 2, 2));
+    let wide = Record { bits: 32, ..record };
+    assert!(crate::pieces::all(&wide).iter().all(|p| !p.amended));
+    let listing = list(&wide.to_bytes(), 0, 1).unwrap();
+    assert_eq!((listing.lines(), listing.amended, listing.amended_16), (3, 0, 0));
+}
+
+/// With 32 and 64 bits a word register's displacement is read as before.
+#[test]
+fn word_registers_at_other_widths() {
+    let read = |bits: u16, disp: u64| source_in(Record { bits, ..real(0, vec![]) }, mov_mem(r::BX, disp, 2));
+    assert_eq!(
+        [16, 32, 64].map(|bits| read(bits, 0xfffe)),
+        ["*(uint16_t *)(bx - 2)", "*(uint16_t *)(bx + 0xfffe)", "*(uint16_t *)(bx + 0xfffe)"]
+    );
+    assert_eq!(read(32, 0xffff_fffe), "*(uint16_t *)(bx - 2)");
+}
+
+/// Every shape of 16-bit code that #114 speaks of is generated.
+#[test]
+fn generated_code_of_16_bits() {
+    let mut rng = crate::rng::Rng::new(6);
+    let (mut records, mut pairs, mut slots, mut sp_lines, mut negative, mut shifted) = (0, 0, 0, 0, 0, 0);
+    for _ in 0..5000 {
+        let record = crate::gen::valid(&mut rng);
+        if record.bits != 16 {
+            continue;
+        }
+        records += 1;
+        shifted += usize::from(record.shift_given == 1 && record.frame == u16::from(r::BP));
+        for i in record.insns() {
+            pairs += usize::from([r::BX, r::BP].contains(&i.base) && [r::SI, r::DI].contains(&i.index));
+            slots += usize::from(i.base == r::BP && record.frame == u16::from(r::BP) && i.index == 0);
+            sp_lines += usize::from(i.operands[0] == reg(r::SP));
+            negative += usize::from(i.base / 16 == 3 && i.memory as u16 >= 0x8000);
+        }
+    }
+    assert!((500..1000).contains(&records), "{records}");
+    assert!(
+        [pairs, slots, sp_lines, negative].iter().all(|n| *n > 200) && shifted > 50,
+        "{pairs} {slots} {sp_lines} {negative} {shifted}"
+    );
+}
+
 #[test]
 fn generated_records_are_sane() {
     assert_eq!(crate::compare::sanity(11, 2000), Ok(true));
@@ -266,6 +462,8 @@ fn questions_in_order() {
     assert_eq!(no_after(|_| ()), 0);
     assert_eq!(crate::questions::first_no(&[0; 23], 9, 0), 1);
     assert_eq!(no_after(|r| r.shift_given = 0), 2);
+    assert_eq!([16, 32, 64].map(|bits| no_after(|r| r.bits = bits)), [0; 3]);
+    assert_eq!([0, 8, 15, 17, 48, 128, 16 + 256].map(|bits| no_after(|r| r.bits = bits)), [2; 7]);
     assert_eq!(no_after(|r| r.indent = 56), 3);
     let mut longer = crate::gen::small().to_bytes();
     longer.push(0);

@@ -128,7 +128,7 @@ fn finish(rng: &mut Rng, world: &World, place: usize, block: &mut Block) {
 fn give_back(rng: &mut Rng, world: &World, block: &mut Block) {
     if rng.percent(60) {
         let how = if rng.percent(80) { m::MOV } else { m::CALL };
-        block.insns.push(two(rng, world, how, r::RAX));
+        block.insns.push(two(rng, world, how, if world.bits == 16 { r::AX } else { r::RAX }));
     }
     if rng.percent(30) {
         for _ in 0..rng.range(4, 7) {

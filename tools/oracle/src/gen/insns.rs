@@ -1,6 +1,6 @@
 //! Instructions, alone and in the company that the emitter looks for.
 
-use super::{World, NUMBERS};
+use super::{real, World, NUMBERS};
 use crate::record::{kind, mnemonic as m, name, register as r, Insn, Operand};
 use crate::rng::Rng;
 
@@ -37,6 +37,9 @@ pub fn jcc(rng: &mut Rng, world: &World, target: u64) -> Insn {
 
 /// One to a few instructions that mean something to the emitter together.
 pub fn recipe(rng: &mut Rng, world: &World, out: &mut Vec<Insn>) {
+    if world.bits == 16 && rng.percent(40) {
+        return real::recipe(rng, world, out);
+    }
     match rng.below(100) {
         0..=11 => {
             out.push(flag_writer(rng, world));
@@ -120,7 +123,7 @@ pub fn conditional(rng: &mut Rng, world: &World) -> Insn {
     Insn { condition: rng.range(1, 16) as u8, ..two(rng, world, how, 0) }
 }
 
-fn call(rng: &mut Rng, world: &World) -> Insn {
+pub fn call(rng: &mut Rng, world: &World) -> Insn {
     if rng.percent(25) {
         return indirect(rng, world, m::CALL);
     }
@@ -142,7 +145,11 @@ pub fn indirect(rng: &mut Rng, world: &World, how: u8) -> Insn {
 
 /// Instructions that a prologue or an epilogue is made of, and near misses.
 fn noise(rng: &mut Rng, world: &World) -> Insn {
-    let sp = if rng.percent(50) { r::RSP } else { r::ESP };
+    let sp = match world.bits {
+        16 => real::stack_pointer(rng),
+        _ if rng.percent(50) => r::RSP,
+        _ => r::ESP,
+    };
     match rng.below(6) {
         0 => one(rng, world, m::PUSH),
         1 => one(rng, world, m::POP),
@@ -245,6 +252,9 @@ pub fn memory(rng: &mut Rng, world: &World) -> Insn {
     if rng.percent(30) {
         return insn;
     }
+    if world.bits == 16 && rng.percent(85) {
+        return real::memory(rng, world);
+    }
     insn.segment = if rng.percent(80) { r::DS } else { rng.pick(&[r::FS, r::GS, 0, r::FS, r::GS, 112, 80]) };
     let sp = if world.bits == 64 { r::RSP } else { r::ESP };
     insn.base = match rng.below(20) {
@@ -289,6 +299,9 @@ pub fn operand(rng: &mut Rng, world: &World) -> Operand {
 }
 
 fn immediate(rng: &mut Rng, world: &World) -> Operand {
+    if world.bits == 16 {
+        return real::immediate(rng, world);
+    }
     Operand { kind: rng.range(kind::IMM8 as usize, kind::IMM32TO64 as usize) as u8, register: 0, number: any_number(rng, world) }
 }
 
@@ -310,12 +323,16 @@ fn argument_register(rng: &mut Rng, world: &World) -> u8 {
         1 => r::AL + index,
         2 => r::EAX + index,
         _ if world.bits == 64 => r::RAX + index,
+        _ if world.bits == 16 => r::AX + index,
         _ => r::EAX + index,
     }
 }
 
 /// A register that code of this width is likely to name.
 fn some_register(rng: &mut Rng, world: &World) -> u8 {
+    if world.bits == 16 {
+        return real::register(rng);
+    }
     match rng.below(20) {
         0..=9 if world.bits == 64 => r::RAX + rng.below(16) as u8,
         0..=11 => r::EAX + rng.below(8) as u8,

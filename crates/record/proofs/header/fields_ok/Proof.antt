@@ -13,7 +13,7 @@ is-zero-requires c κs = search needs
 
 returns : tie.Need-returns
 returns c =
-    let by = c .before .before .before .before .before .before .before .args .h .shift in
+    let by = c .before .before .before .before .before .before .before .before .args .h .shift in
     simp (c .is-zero .ensures ∙ ap isZero (toZ-ofZ w32 by (record { sfits = c .before .struct-told .given .1 .1 .1 .1 .1 .1 .1 .1 .0 .1 })))
 
 pub fields-ok-spec : {M : Type 1} → statement M
