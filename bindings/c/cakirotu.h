@@ -34,7 +34,9 @@ enum cakirotu_answer {
     CAKIROTU_NO_RANGE = 11,        /* from <= to <= the record's blocks? */
     CAKIROTU_NO_TEXT_ROOM = 12,    /* is the text list long enough? */
     CAKIROTU_NO_TOKEN_ROOM = 13,   /* are ends and kinds? */
-    CAKIROTU_NO_LINE_ROOM = 14     /* are addresses, marks and lines? */
+    CAKIROTU_NO_LINE_ROOM = 14,    /* are addresses, marks and lines? */
+    CAKIROTU_NO_BRANCHES = 15      /* asked between 8 and 9: has each block that ends in a conditional near branch one True edge,
+                                      to the branch's target, and any other block none? */
 };
 
 /* Where the three sizes stand. */
@@ -72,7 +74,7 @@ uint8_t cakirotu_list(const uint8_t *rec, size_t rec_len, size_t from, size_t to
                       size_t ends_len, uint8_t *kinds, size_t kinds_len, uint64_t *addresses, size_t addresses_len, uint16_t *marks,
                       size_t marks_len, uint32_t *lines, size_t lines_len, uint64_t *sizes, size_t sizes_len);
 
-/* The sizes of that listing: lists of just these lengths suffice for cakirotu_list. Answers 0 or a number from 1 to 11. */
+/* The sizes of that listing: lists of just these lengths suffice for cakirotu_list. Answers 0 or a number, none of 12 to 14. */
 uint8_t cakirotu_size(const uint8_t *rec, size_t rec_len, size_t from, size_t to, uint64_t *sizes, size_t sizes_len);
 
 #ifdef __cplusplus

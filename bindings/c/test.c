@@ -142,6 +142,35 @@ static void test_cut(const uint8_t *rec, size_t len) {
     }
 }
 
+/* Where the record's three edges have their targets and kinds, and the body of its branch. */
+#define EDGE_TARGETS 60
+#define EDGE_KINDS 84
+#define BRANCH (EDGE_KINDS + 3 + 4 * 8 + 92)
+
+/* A copy of the record with one byte changed is refused by this number. */
+static void refused_with(const uint8_t *rec, size_t len, size_t at, uint8_t byte, uint8_t no) {
+    uint8_t *changed = malloc(len);
+    struct lists l = lend(NONE);
+    CHECK(changed != NULL);
+    memcpy(changed, rec, len);
+    changed[at] = byte;
+    CHECK(cakirotu_size(changed, len, 0, BLOCKS, NULL, 0) == no);
+    CHECK(list(changed, len, 0, BLOCKS, &l, NULL, 0) == no);
+    free(changed);
+}
+
+/* True edges that contradict the branch: none, two, to another target, of a plain block, and of a branch that is none. */
+static void test_branches(const uint8_t *rec, size_t len) {
+    refused_with(rec, len, EDGE_KINDS, 2, CAKIROTU_NO_BRANCHES);
+    refused_with(rec, len, EDGE_KINDS + 1, 1, CAKIROTU_NO_BRANCHES);
+    refused_with(rec, len, EDGE_KINDS + 2, 1, CAKIROTU_NO_BRANCHES);
+    refused_with(rec, len, EDGE_TARGETS + 7, 1, CAKIROTU_NO_BRANCHES);
+    refused_with(rec, len, BRANCH + 1, 0, CAKIROTU_NO_BRANCHES);
+    refused_with(rec, len, BRANCH + 18, 5, CAKIROTU_NO_BRANCHES);
+    refused_with(rec, len, EDGE_KINDS, 5, CAKIROTU_NO_EDGES);
+    refused_with(rec, len, BRANCH + 1, 17, CAKIROTU_NO_INSTRUCTIONS);
+}
+
 int main(int argc, char **argv) {
     static uint8_t rec[4096];
     FILE *file = argc == 2 ? fopen(argv[1], "rb") : NULL;
@@ -155,6 +184,7 @@ int main(int argc, char **argv) {
     test_lengths(rec, len, need);
     test_sizes(rec, len, need);
     test_cut(rec, len);
+    test_branches(rec, len);
     printf("test: %d passed\n", passed);
     return 0;
 }

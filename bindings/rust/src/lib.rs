@@ -87,7 +87,7 @@ impl Lists<'_> {
     }
 }
 
-/// How long the listing of some blocks is: lists of just these lengths suffice. A refusal is one of 1 to 11.
+/// How long the listing of some blocks is: lists of just these lengths suffice. A refusal is none of 12 to 14.
 pub fn size(record: &[u8], blocks: impl Into<Blocks>) -> Result<Sizes, Refusal> {
     ffi::size(record, blocks.into())
 }
@@ -98,7 +98,7 @@ pub fn list_into(record: &[u8], blocks: impl Into<Blocks>, lists: &mut Lists<'_>
     ffi::list(record, blocks.into(), lists)
 }
 
-/// Lists some blocks into a listing of its own, allocated in just the size needed. A refusal is one of 1 to 11, and allocates
+/// Lists some blocks into a listing of its own, allocated in just the size needed. A refusal is none of 12 to 14, and allocates
 /// nothing.
 pub fn list(record: &[u8], blocks: impl Into<Blocks>) -> Result<Listing, Refusal> {
     let blocks = blocks.into();

@@ -21,11 +21,13 @@ pub enum Refusal {
     TextRoom,
     TokenRoom,
     LineRoom,
+    /// Asked between [`Refusal::Instructions`] and [`Refusal::Atlas`].
+    Branches,
 }
 
 impl Refusal {
     /// Every refusal, in the order in which the questions are asked.
-    pub const ALL: [Refusal; 14] = [
+    pub const ALL: [Refusal; 15] = [
         Refusal::Header,
         Refusal::Settings,
         Refusal::Limits,
@@ -34,6 +36,7 @@ impl Refusal {
         Refusal::Starts,
         Refusal::Edges,
         Refusal::Instructions,
+        Refusal::Branches,
         Refusal::Atlas,
         Refusal::Spans,
         Refusal::Range,
@@ -42,7 +45,7 @@ impl Refusal {
         Refusal::LineRoom,
     ];
 
-    /// 1 to 14.
+    /// 1 to 15.
     pub fn number(self) -> u8 {
         self as u8
     }
@@ -72,6 +75,9 @@ impl Refusal {
             Refusal::TextRoom => "Is the text list long enough?",
             Refusal::TokenRoom => "Are the token lists long enough?",
             Refusal::LineRoom => "Are the line lists long enough?",
+            Refusal::Branches => {
+                "Has each block that ends in a conditional near branch one True edge, to the branch's target, and any other block none?"
+            }
         }
     }
 }

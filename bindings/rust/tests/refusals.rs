@@ -3,7 +3,7 @@
 mod common;
 
 use cakirotu::{list, list_into, size, Blocks, Refusal};
-use common::{example, example_with_atlas, Lent, BODIES, EDGE_KINDS, MARKS, STARTS};
+use common::{example, example_with_atlas, Lent, BODIES, BODY, EDGE_KINDS, EDGE_TARGETS, MARKS, STARTS};
 
 /// All three calls refuse with this number, and no list is changed.
 fn refused(record: &[u8], blocks: Blocks, no: Refusal) {
@@ -51,6 +51,30 @@ fn questions_5_to_8() {
     whole(&with(example(), 14, 1), Refusal::Instructions);
 }
 
+/// Of the example's edges the first is the branch's True edge, the second its False one, the third the Fall edge of a plain block.
+#[test]
+fn question_15() {
+    whole(&with(example(), EDGE_KINDS, 2), Refusal::Branches);
+    whole(&with(example(), EDGE_KINDS + 1, 1), Refusal::Branches);
+    whole(&with(example(), EDGE_KINDS + 2, 1), Refusal::Branches);
+    (0..8).for_each(|k| whole(&with(example(), EDGE_TARGETS + k, 0xaa), Refusal::Branches));
+    // The branch is the second instruction: no condition, no near branch, another target.
+    let branch = BODIES + BODY;
+    whole(&with(example(), branch + 1, 0), Refusal::Branches);
+    whole(&with(example(), branch + 18, 5), Refusal::Branches);
+    (20..28).for_each(|k| whole(&with(example(), branch + k, 0xaa), Refusal::Branches));
+    // A branch all the same if its operand is not counted.
+    assert!(list(&with(example(), branch + 2, 0), 0..3).is_ok());
+    whole(&with(with(example(), branch + 2, 0), EDGE_KINDS, 2), Refusal::Branches);
+    // Empty blocks: the first gives its instructions to the second.
+    whole(&with(with(example(), MARKS, 0), MARKS + 4, 3), Refusal::Branches);
+    // After 8 and before 9.
+    whole(&with(with(example(), EDGE_KINDS, 2), 14, 1), Refusal::Instructions);
+    let record = example_with_atlas();
+    let last = record.len() - 1;
+    whole(&with(with(record, EDGE_KINDS, 2), last, 0x7f), Refusal::Branches);
+}
+
 #[test]
 fn questions_9_to_11() {
     let record = example_with_atlas();
@@ -69,12 +93,12 @@ fn questions_9_to_11() {
 
 #[test]
 fn numbers_and_words() {
-    for (n, refusal) in Refusal::ALL.into_iter().enumerate() {
-        assert_eq!(usize::from(refusal.number()), n + 1);
+    assert_eq!(Refusal::ALL.map(Refusal::number), [1, 2, 3, 4, 5, 6, 7, 8, 15, 9, 10, 11, 12, 13, 14]);
+    for refusal in Refusal::ALL {
         assert_eq!(Refusal::from_number(refusal.number()), Some(refusal));
-        assert_eq!(refusal.to_string(), format!("no {}: {}", n + 1, refusal.question()));
+        assert_eq!(refusal.to_string(), format!("no {}: {}", refusal.number(), refusal.question()));
     }
-    assert_eq!([0, 15, 255].map(Refusal::from_number), [None; 3]);
+    assert_eq!([0, 16, 255].map(Refusal::from_number), [None; 3]);
 }
 
 /// Every length, and several changes of every byte: the three calls agree, and a listing's lists hold together. Number 11 never comes:
@@ -96,7 +120,7 @@ fn damaged_records() {
     for damaged in lengths.chain(changes) {
         numbers.insert(agreed(&damaged));
     }
-    assert_eq!(numbers.into_iter().collect::<Vec<u8>>(), (0..=10).collect::<Vec<u8>>());
+    assert_eq!(numbers.into_iter().collect::<Vec<u8>>(), (0..=10).chain([15]).collect::<Vec<u8>>());
 }
 
 /// The number that all calls answer for blocks 0 to 3, or 0.

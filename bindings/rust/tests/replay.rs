@@ -68,7 +68,7 @@ fn sum(numbers: impl Iterator<Item = u64>) -> u64 {
 
 #[test]
 fn every_stored_call_answers_and_leaves_what_was_stored() {
-    let mut seen = [0; 15];
+    let mut seen = [0; 16];
     for (n, case) in cases().iter().enumerate() {
         let mut lent = Lent::new(case.lengths);
         let answer = cakirotu::list_into(&case.record, case.range, &mut lent.lists());
@@ -81,7 +81,7 @@ fn every_stored_call_answers_and_leaves_what_was_stored() {
     assert!(seen.iter().all(|count| *count > 0), "a number is missing: {seen:?}");
 }
 
-/// `size` and `list` know no questions after 11, and agree with the stored call.
+/// `size` and `list` do not ask 12 to 14, and agree with the stored call.
 #[test]
 fn size_and_list_agree_with_every_stored_call() {
     for (n, case) in cases().iter().enumerate() {
@@ -90,8 +90,8 @@ fn size_and_list_agree_with_every_stored_call() {
         assert_eq!(list.as_ref().map(|listing| listing.sizes()), size.as_ref().copied(), "case {n}");
         match case.no {
             0 => assert_eq!(size, Ok(case.sizes), "case {n}"),
-            1..=11 => assert_eq!(size.unwrap_err().number(), case.no, "case {n}"),
-            _ => assert!(size.is_ok(), "case {n}"),
+            12..=14 => assert!(size.is_ok(), "case {n}"),
+            _ => assert_eq!(size.unwrap_err().number(), case.no, "case {n}"),
         }
         let Ok(listing) = list else { continue };
         let mut lent = Lent::new(common::exact(listing.sizes()));

@@ -5,4 +5,5 @@ pub mod Laws
 pub mod Terms
 pub mod Bounds
 pub mod Silenced
+pub mod Closing
 pub mod Classes

@@ -35,7 +35,7 @@ use Rattle.flow.proofs.Totals.{instructions-within}
 
 -- how a block ends, by whether its last instruction has no condition, is a direct jmp, has a near branch first
 abbrev ending : Bool → Bool → Bool → ℕ
-ending z j n = pick z (pick j 3 0) (pick n 2 1)
+ending z j n = pick (not z && n) 2 (pick (not z) 1 (pick j 3 0))
 
 -- a last instruction in a range being written: x is skip-marked, noise or one of the seven; g and r say that a jmp goes to the next block
 range-rule : (z j n x g r : Bool) → (j && not z) ≡ false → (ending z j n ≡ 3 → g ≡ r)
@@ -82,7 +82,7 @@ module _ (h : Header) (s : List ℕ) (k : ℕ) (below : k < h .blocks) where
   abbrev count : ℕ
   count = instructionsIn (marksOf h s) k
 
-  last-is : lastIn (blockRows h s) k ≡ first + count - 1
+  pub last-is : lastIn (blockRows h s) k ≡ first + count - 1
   last-is = rw (first-in h s k below, count-in h s k below)
 
   module _ (t : Counted h s) (plain : PlainJmps h s) (i : ℕ) (after : first ≤ i) (before : i < first + count) where

@@ -8,7 +8,7 @@ use Rattle.x86.specs.Words.{isOneOf}
 use Rattle.x86.specs.Registers.{calleeSaved}
 use Rattle.x86.specs.Width.{isStackPointer}
 use Rattle.x86.specs.Mnemonics.{mov, lea, add, sub, push, pop, jmp, cdq, cqo, cdqe, cwde, cmp, test, leave, endbr32}
-use Rattle.record.specs.Body.{mnemonicOf, conditionOf, skipMark, operandKind, operandRegister}
+use Rattle.record.specs.Body.{mnemonicOf, conditionOf, isConditionalBranch, skipMark, operandKind, operandRegister}
 
 -- "cmp, test, push, cdq, cqo, cdqe, cwde"
 abbrev pub folded : ℕ → Bool
@@ -54,6 +54,4 @@ isSilentItself bits frame b = isSkipped bits frame b || folded (mnemonicOf b) ||
 -- how a block with this last instruction ends: 1 with a condition but no near branch, 2 with a condition and a near branch as
 -- first operand, 3 with a direct jmp, 0 otherwise
 unfoldable pub endingOf : List ℕ → ℕ
-endingOf b =
-    pick (eqb (conditionOf b) 0) (pick (isDirectJmp b) 3 0)
-    (pick (eqb (operandKind b 0) 2) 2 1)
+endingOf b = pick (isConditionalBranch b) 2 (pick (not (eqb (conditionOf b) 0)) 1 (pick (isDirectJmp b) 3 0))

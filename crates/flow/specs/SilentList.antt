@@ -8,7 +8,7 @@ use Rattle.lists.specs.Choice.{pick}
 use Rattle.record.specs.declared.header.Header.{Header}
 use Rattle.record.specs.Layout.{marksOf, bodiesOf}
 use Rattle.record.specs.Blocks.{instructionsIn, firstInstruction}
-use Rattle.record.specs.Body.{bodyAt, mnemonicOf, conditionOf, operandKind, operandNumber}
+use Rattle.record.specs.Body.{bodyAt, mnemonicOf, isConditionalBranch, operandNumber}
 use Rattle.structure.specs.Demand.{Context}
 use Rattle.structure.specs.Demand.Context.{in-range, in-body, last-in-body}
 use Rattle.flow.specs.Silent.{folded, isDirectJmp, isSkipped}
@@ -25,10 +25,6 @@ abbrev pub closesBody : Context → Bool
 closesBody (in-range end) = false
 closesBody in-body = false
 closesBody last-in-body = true
-
--- "condition and near branch"
-abbrev pub isConditionalBranch : List ℕ → Bool
-isConditionalBranch b = not (eqb (conditionOf b) 0) && eqb (operandKind b 0) 2
 
 module _ (h : Header) (s : List ℕ) where
   abbrev pub bodyIn : ℕ → List ℕ

@@ -1,6 +1,7 @@
 // Which instructions are silent by themselves, and how a block ends: over the part of the record that begins at a body.
 use lists::reads::plain_u8;
 use record::body::condition_code;
+use record::body::is_conditional_branch;
 use record::body::mnemonic;
 use record::body::op_kind;
 use record::body::op_register;
@@ -134,14 +135,14 @@ pub fn silent_class(classes: &[u8], m: u8) -> u8
 pub fn ending_of(body: &[u8]) -> u8
     ensures { λ r. ⌜ (r ≡ endingOf (now (body .entry))) × (r ≤ 3) ⌝ }
 {
-    if condition_code(body) == 0 {
-        if is_direct_jmp(body) {
-            return 3;
-        }
-        return 0;
-    }
-    if op_kind(body, 0) == 2 {
+    if is_conditional_branch(body) {
         return 2;
     }
-    1
+    if condition_code(body) != 0 {
+        return 1;
+    }
+    if is_direct_jmp(body) {
+        return 3;
+    }
+    0
 }

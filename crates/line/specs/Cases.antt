@@ -1,4 +1,4 @@
--- Document 01's cases (a) to (j) and one of #114, as rows of one check: whole records of which every question up to 11 gets a yes, and the lines that
+-- Document 01's cases (a) to (j) and one of #114, as rows of one check: whole records of which every question before 12 gets a yes, and the lines that
 -- each prints.
 -- All rows are computed at once from the definitions that the contracts cite.
 use mathlib.Core.Path.{_≡_, ap, _∙_}
@@ -24,9 +24,10 @@ use Rattle.x86.specs.Mnemonics.{mov, lea, add, dec, cmp, mnemonicNames, mnemoni
 use Rattle.x86.specs.Conditions.{conditionNames, conditionName, operatorText, relationAfterCmp, relationAfterOther, printsUnsigned}
 use Rattle.x86.specs.Sizes.{sizeTypes, sizeType}
 use Rattle.record.specs.Header.{headerOf}
-use Rattle.record.specs.Asked.{firstNo, sizesNo, blocksNo, contentsNo, rangeNo, marksAsked, startsAsked, edgeKindsAsked, bodiesAsked, atlasAsked, spansAsked}
+use Rattle.record.specs.Asked.{firstNo, sizesNo, blocksNo, contentsNo, rangeNo, marksAsked, startsAsked, edgeKindsAsked, bodiesAsked, branchesAsked, atlasAsked, spansAsked}
 use Rattle.record.specs.Blocks.{firstInstruction, firstEdge, marksOk, startsDiffer, startIsNew, edgeKindsOk}
 use Rattle.record.specs.Body.{bodiesOk, bodyOk, fixedOk, operandsOk, operandOk, isName, isZeros}
+use Rattle.record.specs.Branches.{trueCount, trueLead, branchAgrees, branchOk, branchesOk}
 use Rattle.record.specs.Atlas.{textStart, atlasOk, entriesOk, textsOk, textOk, spansOk}
 use Rattle.record.specs.Search.{findFrom, lastFrom}
 use Rattle.operand.specs.Names.{entryAt, entryToken, nameOr, inSpan}
@@ -259,7 +260,7 @@ hex l (suc k) v h =
     ]
 
 pub all-print : map answered cases ≡ map (λ (c : Case). (0, c .expected)) cases
-unfolding cases flatten flatMap headerOf firstNo sizesNo blocksNo contentsNo rangeNo marksAsked startsAsked edgeKindsAsked bodiesAsked atlasAsked spansAsked marksOk startsDiffer startIsNew edgeKindsOk bodiesOk bodyOk fixedOk operandsOk operandOk isName isZeros registerExists atlasOk entriesOk textsOk textOk spansOk join run printed lineTokens piecesTokens rowOf insnForm plainForm recordPlan blockRows edgeRows edgeRow shownRows shownRow rowsFrom blockRow firstInstruction firstEdge blockEnding blockBranch endingOf placeOf findFrom isSilentItself isPrologueNoise isStackPointer rangeLines treeLines treeOf treeGo shapeAt lastLoop lastFrom closesLoop hasEdge endingIn regionAt opensRegion plainLines shownLines bodyCount closingLines relationAfterOther pieceTokens opTokens immediate immediateNumber signedRead memTokens memExpr addressExpr displacement typeWord sizeType sizeTypes slotToken isSlot slotNumber slotDisplacement addsToWord slotBase nameOr entryAt entryToken textStart inSpan prefixed numText sign sizeText hexOf digit registerName registerNames literalText opening closing escapes escape conditionTokens flagWriter afterWriter writesFlags mnemonicName mnemonicNames conditionName conditionNames operatorText relationAfterCmp printsUnsigned
+unfolding cases flatten flatMap headerOf firstNo sizesNo blocksNo contentsNo rangeNo marksAsked startsAsked edgeKindsAsked bodiesAsked branchesAsked atlasAsked spansAsked branchesOk branchOk branchAgrees trueCount trueLead marksOk startsDiffer startIsNew edgeKindsOk bodiesOk bodyOk fixedOk operandsOk operandOk isName isZeros registerExists atlasOk entriesOk textsOk textOk spansOk join run printed lineTokens piecesTokens rowOf insnForm plainForm recordPlan blockRows edgeRows edgeRow shownRows shownRow rowsFrom blockRow firstInstruction firstEdge blockEnding blockBranch endingOf placeOf findFrom isSilentItself isPrologueNoise isStackPointer rangeLines treeLines treeOf treeGo shapeAt lastLoop lastFrom closesLoop hasEdge endingIn regionAt opensRegion plainLines shownLines bodyCount closingLines relationAfterOther pieceTokens opTokens immediate immediateNumber signedRead memTokens memExpr addressExpr displacement typeWord sizeType sizeTypes slotToken isSlot slotNumber slotDisplacement addsToWord slotBase nameOr entryAt entryToken textStart inSpan prefixed numText sign sizeText hexOf digit registerName registerNames literalText opening closing escapes escape conditionTokens flagWriter afterWriter writesFlags mnemonicName mnemonicNames conditionName conditionNames operatorText relationAfterCmp printsUnsigned
 all-print =
     rw (
       hex false 0 10 (omega arith),

@@ -3,4 +3,5 @@ pub mod Listing
 pub mod Answers
 pub mod Calls
 pub mod Demand
+pub mod Loops
 pub mod Promises

@@ -1,5 +1,5 @@
 -- What a call answers and leaves is what it promises, demand by demand.
--- With a number every list is as it was; with 0 the lists begin with the defined listing, of which demand 3 is proved.
+-- With a number every list is as it was; with 0 the lists begin with the defined listing, of which demand 3 and #108 are proved.
 use mathlib.Core.Path.{_≡_, refl, sym, ap, _∙_}
 use mathlib.Core.Bool.{Bool, true, false, _&&_}
 use mathlib.Core.List.{List, map}
@@ -11,7 +11,7 @@ use lib.Seq.{take-append-le, take-all}
 use lib.Dec.{leb}
 use Rattle.record.specs.Header.{headerOf, headerFits, fieldsOk, limitsOk}
 use Rattle.record.specs.Layout.{lengthOk}
-use Rattle.record.specs.Asked.{ask, orElse, sizesNo, marksAsked, startsAsked, edgeKindsAsked, bodiesAsked, atlasAsked, spansAsked, blocksNo, contentsNo, rangeNo, firstNo}
+use Rattle.record.specs.Asked.{ask, orElse, sizesNo, marksAsked, startsAsked, edgeKindsAsked, bodiesAsked, branchesAsked, atlasAsked, spansAsked, blocksNo, contentsNo, rangeNo, firstNo}
 use Rattle.record.proofs.AskedLaws.{later}
 use Rattle.tokens.specs.Token.{Token}
 use Rattle.tokens.specs.Listing.{join, Listing, listing}
@@ -20,6 +20,7 @@ use Rattle.flow.specs.Planned.{recordPlan}
 use Rattle.line.specs.Shown.{ConditionsShown, CallsShown}
 use Rattle.pseudo.specs.Called.{numberOf, roomNo, answerFor, over, Leaves, roomsOf, sizes, callNo, Called}
 use Rattle.pseudo.specs.Demand.{LinesDemand3}
+use Rattle.pseudo.specs.Loops.{LoopsClose}
 use Rattle.pseudo.specs.Promise.{Lists, listsOf, valuesOf, held, Promise}
 use Rattle.pseudo.specs.declared.rooms.Sizes.{Sizes}
 use Rattle.pseudo.specs.declared.rooms.Rooms.{Rooms}
@@ -28,43 +29,48 @@ use Rattle.tokens.proofs.Lines.{lines-back}
 use Rattle.line.proofs.LinesShown.{conditions-shown, calls-shown}
 use Rattle.pseudo.proofs.Answers.{printed-length}
 use Rattle.pseudo.proofs.Demand.{listing-demand3}
+use Rattle.pseudo.proofs.Loops.{loops-close}
 
 -- ---- the numbers
 
-pub ask-within : (n : ℕ) (q : Bool) (l m : ℕ) → n ≤ m → l ≤ m → ask n q l ≤ m
-ask-within n true l m a b = b
-ask-within n false l m a b = a
+-- what holds of the number of a question and of the later ones' holds of the first that gets a no
+pub ask-kept : (P : ℕ → Type 0) (n : ℕ) (q : Bool) (l : ℕ) → P n → P l → P (ask n q l)
+ask-kept P n true l a b = b
+ask-kept P n false l a b = a
 
-else-within : (a b m : ℕ) → a ≤ m → b ≤ m → orElse a b ≤ m
-else-within zero b m p q = q
-else-within (suc a) b m p q = p
+else-kept : (P : ℕ → Type 0) (a b : ℕ) → P a → P b → P (orElse a b)
+else-kept P zero b p q = q
+else-kept P (suc a) b p q = p
 
--- three questions, one behind the other
-three-within : (a b c m : ℕ) (p q r : Bool) → a ≤ m → b ≤ m → c ≤ m → ask a p (ask b q (ask c r 0)) ≤ m
-three-within a b c m p q r x y z = ask-within a p (ask b q (ask c r 0)) m x (ask-within b q (ask c r 0) m y (ask-within c r 0 m z (omega arith)))
-
-pub first-within : (s : List ℕ) (from to : ℕ) → firstNo s from to ≤ 11
+-- the questions before 12 have the numbers up to 11, and 15
+pub first-kept : (P : ℕ → Type 0) → ((n : ℕ) → n ≤ 11 → P n) → P 15 → (s : List ℕ) (from to : ℕ) → P (firstNo s from to)
 unfolding firstNo sizesNo blocksNo contentsNo rangeNo
-first-within s from to =
+first-kept P few last s from to =
     let h = headerOf s in
+    let asked : (n : ℕ) (q : Bool) (l : ℕ) → n ≤ 11 → P l → P (ask n q l) = λ n q l le. ask-kept P n q l (few n le) in
+    let end : P 0 = few 0 (omega arith) in
     let sizes =
-    ask-within 1 (headerFits s) _ 11 (omega arith) (three-within 2 3 4 11 (fieldsOk h) (limitsOk h) (lengthOk h s) (omega arith) (omega arith) (omega arith)) in
-    let marks = three-within 5 6 7 11 (marksAsked h s) (startsAsked h s) (edgeKindsAsked h s) (omega arith) (omega arith) (omega arith) in
-    let contents = three-within 8 9 10 11 (bodiesAsked h s) (atlasAsked h s) (spansAsked h s) (omega arith) (omega arith) (omega arith) in
-    let range = ask-within 11 (leb from to && leb to (h .blocks)) 0 11 (omega arith) (omega arith) in
-    else-within (sizesNo s) _ 11 sizes (else-within (blocksNo h s) _ 11 marks (else-within (contentsNo h s) _ 11 contents range))
+    asked 1 (headerFits s) _ (omega arith) (asked 2 (fieldsOk h) _ (omega arith) (asked 3 (limitsOk h) _ (omega arith) (asked 4 (lengthOk h s) 0 (omega arith) end)))
+    in
+    let marks = asked 5 (marksAsked h s) _ (omega arith) (asked 6 (startsAsked h s) _ (omega arith) (asked 7 (edgeKindsAsked h s) 0 (omega arith) end)) in
+    let texts = asked 9 (atlasAsked h s) _ (omega arith) (asked 10 (spansAsked h s) 0 (omega arith) end) in
+    let contents = asked 8 (bodiesAsked h s) _ (omega arith) (ask-kept P 15 (branchesAsked h s) (ask 9 (atlasAsked h s) (ask 10 (spansAsked h s) 0)) last texts) in
+    let range = asked 11 (leb from to && leb to (h .blocks)) 0 (le-refl 11) end in
+    else-kept P (sizesNo s) _ sizes (else-kept P (blocksNo h s) _ marks (else-kept P (contentsNo h s) (rangeNo h from to) contents range))
 
-room-within : (z : Sizes) (r : Rooms) → roomNo z r ≤ 14
+room-within : (z : Sizes) (r : Rooms) → roomNo z r ≤ 15
 unfolding roomNo
 room-within z r =
     let tokens = leb (z .tokens) (r .ends) && leb (z .tokens) (r .kinds) in
     let lines = leb (z .lines) (r .addresses) && leb (z .lines) (r .marks) && leb (z .lines) (r .lines) in
-    ask-within 12 (leb (z .text) (r .text)) (ask 13 tokens (ask 14 lines 0)) 14 (omega arith)
-    (ask-within 13 tokens (ask 14 lines 0) 14 (omega arith) (ask-within 14 lines 0 14 (le-refl 14) (omega arith)))
+    ask-kept (λ (n : ℕ). n ≤ 15) 12 (leb (z .text) (r .text)) (ask 13 tokens (ask 14 lines 0)) (omega arith)
+    (ask-kept (λ (n : ℕ). n ≤ 15) 13 tokens (ask 14 lines 0) (omega arith) (ask-kept (λ (n : ℕ). n ≤ 15) 14 lines 0 (omega arith) (omega arith)))
 
-call-within : (s : List ℕ) (from to : ℕ) (r : Rooms) → callNo s from to r ≤ 14
+pub call-within : (s : List ℕ) (from to : ℕ) (r : Rooms) → callNo s from to r ≤ 15
 unfolding callNo
-call-within s from to r = else-within (firstNo s from to) (roomNo (sizes s from to) r) 14 (omega (arith, first-within s from to)) (room-within (sizes s from to) r)
+call-within s from to r =
+    else-kept (λ (n : ℕ). n ≤ 15) (firstNo s from to) (roomNo (sizes s from to) r)
+    (first-kept (λ (n : ℕ). n ≤ 15) (λ n h. omega arith) (le-refl 15) s from to) (room-within (sizes s from to) r)
 
 number-is : (z : Sizes) (n : ℕ) → numberOf (answerFor z n) ≡ n
 number-is z zero = refl
@@ -127,6 +133,13 @@ module _ (s : List ℕ) (from to : ℕ) (b a : Lists) (r : Answer)
         read-back (length va) (t .lines) (b .lines) (a .lines) (d .ended) (p .lines),
       ) d
 
+  loops-held : (n : ℕ) → Left n → n ≡ 0 → firstNo s from to ≡ 0
+      → LoopsClose (headerOf s) s 0 (recordPlan (headerOf s) s from to) (take (valuesOf r .lines) (a .addresses))
+  loops-held (suc n) p z q = absurd (omega arith)
+  loops-held zero p z q =
+      let size : valuesOf r .lines ≡ length va = ap (λ (g : Answer). valuesOf g .lines) (p .answer) in
+      rw (size, read-back (length va) va (b .addresses) (a .addresses) refl (p .addresses)) (loops-close s from to q)
+
   -- the lists hold the lines of the defined listing
   lines-held : (n : ℕ) → Left n → n ≡ 0 → held a r ≡ map join ls
   unfolding listing
@@ -155,5 +168,6 @@ module _ (s : List ℕ) (from to : ℕ) (b a : Lists) (r : Answer)
     refused = λ o. refused (callNo s from to rooms) c (λ e. o (number ∙ e));
     relations = λ e. relations-held (lines-held (callNo s from to rooms) c (sym number ∙ e));
     arguments = λ e. arguments-held (lines-held (callNo s from to rooms) c (sym number ∙ e));
+    loops = λ e. loops-held (callNo s from to rooms) c (sym number ∙ e) (accepted (sym number ∙ e));
     demand3 = λ e. listed (callNo s from to rooms) c (sym number ∙ e) (accepted (sym number ∙ e));
   }

@@ -87,7 +87,7 @@ module _ (s : List ℕ) (from to : ℕ) where
   abbrev pub sizes : Sizes
   sizes = sizesOf (recordListing (headerOf s) s from to) (recordAddresses (headerOf s) s from to)
 
-  -- the number of the first question that gets a no, of 1 to 14
+  -- the number of the first question that gets a no, of 1 to 15
   unfoldable pub callNo : Rooms → ℕ
   callNo r = orElse (firstNo s from to) (roomNo sizes r)
 

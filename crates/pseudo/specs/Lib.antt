@@ -3,4 +3,5 @@ pub mod Marks
 pub mod Coded
 pub mod Called
 pub mod Demand
+pub mod Loops
 pub mod Promise

@@ -10,6 +10,7 @@ use Rattle.flow.specs.Planned.{recordPlan}
 use Rattle.line.specs.Shown.{ConditionsShown, CallsShown}
 use Rattle.pseudo.specs.Called.{numberOf, Called}
 use Rattle.pseudo.specs.Demand.{LinesDemand3}
+use Rattle.pseudo.specs.Loops.{LoopsClose}
 use Rattle.pseudo.specs.declared.rooms.Sizes.{Sizes}
 use Rattle.pseudo.specs.declared.call.Answer.{Answer}
 use Rattle.pseudo.specs.declared.call.Answer.the-variants.{Listed, No}
@@ -40,14 +41,17 @@ pub record Promise (s : List ℕ) (from to : ℕ) (b a : Lists) (r : Answer) : T
   -- unchanged past it
   pub called : Called s from to
       (b .text) (a .text) (b .ends) (a .ends) (b .kinds) (a .kinds) (b .addresses) (a .addresses) (b .marks) (a .marks) (b .lines) (a .lines) r
-  -- "each call on arbitrary bytes finishes with a listing or with one of fourteen numbers"
-  pub number : numberOf r ≤ 14
+  -- "each call on arbitrary bytes finishes with a listing or with one of" the numbers, fifteen with #108
+  pub number : numberOf r ≤ 15
   -- "A number comes with all sizes zero, and every lent list is then unchanged."
   pub refused : (numberOf r ≡ 0 → ⊥) → (valuesOf r ≡ record { text = 0; tokens = 0; lines = 0 }) × (a ≡ b)
   -- "The relation printed after CMP or TEST is proved against Intel's flag rules": of the tokens of every line that shows a condition
   pub relations : numberOf r ≡ 0 → ConditionsShown (headerOf s) s (recordPlan (headerOf s) s from to) (held a r)
   -- "and the argument registers against the two calling conventions": of the tokens of every line that ends in a call, by the lines before it
   pub arguments : numberOf r ≡ 0 → headerOf s .bits ≡ 64 → CallsShown (headerOf s) s (recordPlan (headerOf s) s from to) (held a r)
+  -- #108: each while-line's instruction is a branch back to the do-line that it closes
+  pub loops : numberOf r ≡ 0
+      → LoopsClose (headerOf s) s 0 (recordPlan (headerOf s) s from to) (take (valuesOf r .lines) (a .addresses))
   -- demand 3, of the lines that the lists hold
   pub demand3 : numberOf r ≡ 0
       → LinesDemand3 s from to (take (valuesOf r .lines) (a .addresses)) (take (valuesOf r .lines) (a .marks)) (take (valuesOf r .lines) (a .lines))

@@ -12,7 +12,7 @@ use Rattle.record.specs.declared.header.Header.{Header}
 use Rattle.record.specs.Header.{headerOf, headerFits, fieldsOk, limitsOk}
 use Rattle.record.specs.Layout.{lengthOk, marksOf}
 use Rattle.record.specs.Blocks.{marksOk}
-use Rattle.record.specs.Asked.{ask, orElse, sizesNo, marksAsked, startsAsked, edgeKindsAsked, bodiesAsked, atlasAsked, spansAsked, blocksNo, contentsNo, rangeNo, firstNo}
+use Rattle.record.specs.Asked.{ask, orElse, sizesNo, marksAsked, startsAsked, edgeKindsAsked, bodiesAsked, branchesAsked, atlasAsked, spansAsked, blocksNo, contentsNo, rangeNo, firstNo}
 
 pub later : (a b : ℕ) → orElse a b ≡ 0 → (a ≡ 0) × (b ≡ 0)
 later zero b h = (refl, h)
@@ -44,15 +44,25 @@ module _ (s : List ℕ) (from to : ℕ) (yes : firstNo s from to ≡ 0) where
   unfolding blocksNo marksAsked
   yes-marks = passed 4 _ (ask 6 (startsAsked h s) (ask 7 (edgeKindsAsked h s) 0)) (stages .1) .0
 
+  -- questions 9 and 10
+  abbrev texts : ℕ
+  texts = ask 9 (atlasAsked h s) (ask 10 (spansAsked h s) 0)
+
   -- question 8
   pub yes-bodies : bodiesAsked h s ≡ true
   unfolding contentsNo
-  yes-bodies = passed 7 (bodiesAsked h s) (ask 9 (atlasAsked h s) (ask 10 (spansAsked h s) 0)) (stages .2) .0
+  yes-bodies = passed 7 (bodiesAsked h s) (ask 15 (branchesAsked h s) texts) (stages .2) .0
+
+  -- question 15
+  pub yes-branches : branchesAsked h s ≡ true
+  unfolding contentsNo
+  yes-branches = passed 14 (branchesAsked h s) texts (passed 7 (bodiesAsked h s) _ (stages .2) .1) .0
 
   -- question 9
   pub yes-atlas : atlasAsked h s ≡ true
   unfolding contentsNo
-  yes-atlas = passed 8 (atlasAsked h s) (ask 10 (spansAsked h s) 0) (passed 7 (bodiesAsked h s) _ (stages .2) .1) .0
+  yes-atlas =
+      passed 8 (atlasAsked h s) (ask 10 (spansAsked h s) 0) (passed 14 (branchesAsked h s) texts (passed 7 (bodiesAsked h s) _ (stages .2) .1) .1) .0
 
   -- question 11
   pub yes-range : (from ≤ to) × (to ≤ h .blocks)

@@ -1,4 +1,4 @@
--- The questions 1 to 11 in order, and the first that gets a no.
+-- The questions 1 to 11 and 15 in their order, and the first that gets a no.
 use Prim.Native.Nat.{ℕ, zero, suc}
 use mathlib.Core.List.{List}
 use mathlib.Core.Bool.{Bool, true, false, _&&_}
@@ -6,9 +6,10 @@ use mathlib.Core.Path.{_≡_}
 use lib.Dec.{leb}
 use Rattle.x86.specs.Registers.{registerExists}
 use Rattle.record.specs.Header.{headerOf, headerFits, fieldsOk, limitsOk}
-use Rattle.record.specs.Layout.{lengthOk, startsOf, marksOf, edgeKindsOf, bodiesOf, entriesOf, pairsOf, spansOf, textsOf}
+use Rattle.record.specs.Layout.{lengthOk, startsOf, marksOf, targetsOf, edgeKindsOf, bodiesOf, entriesOf, pairsOf, spansOf, textsOf}
 use Rattle.record.specs.Blocks.{marksOk, startsDiffer, edgeKindsOk}
 use Rattle.record.specs.Body.{bodiesOk}
+use Rattle.record.specs.Branches.{branchesOk}
 use Rattle.record.specs.Atlas.{atlasOk, spansOk}
 use Rattle.record.specs.declared.header.Header.{Header}
 use Rattle.record.specs.declared.asked.Asked.{Asked}
@@ -33,7 +34,7 @@ sizesNo s =
     (ask 4 (lengthOk (headerOf s) s)
     0)))
 
--- Questions 5 to 10 of a record that has this header.
+-- Questions 5 to 10 and 15 of a record that has this header.
 module _ (h : Header) (s : List ℕ) where
   -- "5. Instruction counts total I, edge counts E, label marks 0 or 1?"
   unfoldable pub marksAsked : Bool
@@ -51,6 +52,10 @@ module _ (h : Header) (s : List ℕ) where
   unfoldable pub bodiesAsked : Bool
   bodiesAsked = registerExists (h .frame) && bodiesOk (bodiesOf h s) (h .instructions)
 
+  -- #108: "15 if a block breaks that rule, asked directly after 8 and before 9"
+  unfoldable pub branchesAsked : Bool
+  branchesAsked = branchesOk (targetsOf h s) (edgeKindsOf h s) (marksOf h s) (bodiesOf h s) (h .blocks)
+
   -- "9. Atlas addresses strictly rising, kinds 1 to 3, lengths total T, .. ?"
   unfoldable pub atlasAsked : Bool
   atlasAsked = atlasOk (entriesOf h s) (pairsOf h s) (textsOf h s) (h .atlas) (h .text)
@@ -63,7 +68,7 @@ module _ (h : Header) (s : List ℕ) where
   blocksNo = ask 5 marksAsked (ask 6 startsAsked (ask 7 edgeKindsAsked 0))
 
   unfoldable pub contentsNo : ℕ
-  contentsNo = ask 8 bodiesAsked (ask 9 atlasAsked (ask 10 spansAsked 0))
+  contentsNo = ask 8 bodiesAsked (ask 15 branchesAsked (ask 9 atlasAsked (ask 10 spansAsked 0)))
 
 -- "11. from ≤ to ≤ B?"
 unfoldable pub rangeNo : Header → ℕ → ℕ → ℕ

@@ -55,6 +55,10 @@ operandAt i = 18 + 10 * i
 abbrev pub operandKind : List ℕ → ℕ → ℕ
 operandKind b i = u8At b (operandAt i)
 
+-- a condition, "and, as first operand, a near branch", read from its slot
+abbrev pub isConditionalBranch : List ℕ → Bool
+isConditionalBranch b = not (eqb (conditionOf b) 0) && eqb (operandKind b 0) 2
+
 abbrev pub registerByte : List ℕ → ℕ → ℕ
 registerByte b i = u8At b (operandAt i + 1)
 

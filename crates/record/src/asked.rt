@@ -1,10 +1,11 @@
-// The questions 1 to 11, by stages: each stage answers the number of its first question that gets a no, or 0.
+// The questions 1 to 11 and 15, by stages: each stage answers the number of its first question that gets a no, or 0.
 use crate::atlas::atlas_ok;
 use crate::atlas::spans_ok;
 use crate::blocks::edge_kinds_ok;
 use crate::blocks::marks_ok;
 use crate::blocks::starts_differ;
 use crate::body::bodies_ok;
+use crate::branches::branches_ok;
 use crate::header::Header;
 use crate::header::fields_ok;
 use crate::header::limits_ok;
@@ -16,11 +17,12 @@ use crate::layout::marks_at;
 use crate::layout::pairs_at;
 use crate::layout::size_of;
 use crate::layout::spans_at;
+use crate::layout::targets_at;
 use crate::layout::texts_at;
 use lists::reads::from;
 use x86::registers::register_exists;
 ghost use mathlib.Core.Path.{_≡_};
-ghost use Rattle.record.specs.Asked.{sizesNo, marksAsked, startsAsked, edgeKindsAsked, bodiesAsked, atlasAsked, spansAsked, blocksNo, contentsNo, rangeNo, Answered};
+ghost use Rattle.record.specs.Asked.{ask, sizesNo, marksAsked, startsAsked, edgeKindsAsked, bodiesAsked, branchesAsked, atlasAsked, spansAsked, blocksNo, contentsNo, rangeNo, Answered};
 
 // The answer: the header of a record that may be listed, or the number of the question that got a no.
 pub enum Asked {
@@ -76,6 +78,16 @@ fn bodies_asked(bytes: &[u8], h: Header) -> bool
     register_exists(h.frame) & bodies_ok(from(bytes, bodies_at(h)), h.instructions)
 }
 
+// Question 15.
+fn branches_asked(bytes: &[u8], h: Header) -> bool
+    ensures { λ r. ⌜ r ≡ branchesAsked h (now (bytes .entry)) ⌝ }
+{
+    let targets = from(bytes, targets_at(h));
+    let kinds = from(bytes, edge_kinds_at(h));
+    let marks = from(bytes, marks_at(h));
+    branches_ok(targets, kinds, marks, from(bytes, bodies_at(h)), h.blocks)
+}
+
 // Question 9.
 fn atlas_asked(bytes: &[u8], h: Header) -> bool
     ensures { λ r. ⌜ r ≡ atlasAsked h (now (bytes .entry)) ⌝ }
@@ -108,20 +120,26 @@ pub fn blocks_no(bytes: &[u8], h: Header) -> u8
     5
 }
 
-// Questions 8 to 10.
+// Question n's number where it got a no, else what the later questions say.
+fn ask(n: u8, yes: bool, later: u8) -> u8
+    ensures { λ r. ⌜ r ≡ ask n yes later ⌝ }
+{
+    if yes { later } else { n }
+}
+
+// Questions 8, 15, 9 and 10.
 pub fn contents_no(bytes: &[u8], h: Header) -> u8
     ensures { λ r. ⌜ r ≡ contentsNo h (now (bytes .entry)) ⌝ }
 {
-    if bodies_asked(bytes, h) {
-        if atlas_asked(bytes, h) {
-            if spans_asked(bytes, h) {
-                return 0;
-            }
-            return 10;
-        }
-        return 9;
-    }
-    8
+    let bodies = bodies_asked(bytes, h);
+    let branches = branches_asked(bytes, h);
+    let atlas = atlas_asked(bytes, h);
+    let spans = spans_asked(bytes, h);
+    ask(
+        8,
+        bodies,
+        ask(15, branches, ask(9, atlas, ask(10, spans, 0))),
+    )
 }
 
 // Question 11.
@@ -134,7 +152,7 @@ pub fn range_no(h: Header, from: usize, to: usize) -> u8
     11
 }
 
-// The questions 1 to 11 of a record and a range of its blocks. Nothing is demanded of the caller.
+// The questions 1 to 11 and 15 of a record and a range of its blocks. Nothing is demanded of the caller.
 pub fn record(bytes: &[u8], from: usize, to: usize) -> Asked
     ensures { λ r. ⌜ Answered (now (bytes .entry)) from to r ⌝ }
 {

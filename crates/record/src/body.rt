@@ -11,7 +11,7 @@ ghost use mathlib.Core.Path.{_≡_};
 ghost use Prim.Native.Nat.{_-_, _*_, _<_, _≤_};
 ghost use lib.ListN.{length};
 ghost use Rattle.x86.specs.Table.{missingTable};
-ghost use Rattle.record.specs.Body.{addressAt, bodyAt, mnemonicOf, conditionOf, operandCount, skipMark, segmentOf, baseOf, indexOf, scaleOf, memorySize, memoryAddress, operandKind, registerByte, operandRegister, operandNumber, nameByte, conditionOk, scaleOk, operandOk, fixedOk, isName, isZeros, operandsOk, bodyOk, bodiesOk};
+ghost use Rattle.record.specs.Body.{addressAt, bodyAt, mnemonicOf, conditionOf, operandCount, skipMark, segmentOf, baseOf, indexOf, scaleOf, memorySize, memoryAddress, operandKind, registerByte, operandRegister, operandNumber, isConditionalBranch, nameByte, conditionOk, scaleOk, operandOk, fixedOk, isName, isZeros, operandsOk, bodyOk, bodiesOk};
 
 pub fn address_at(addresses: &[u8], i: u16) -> u64
     ensures { λ r. ⌜ r ≡ addressAt (now (addresses .entry)) i ⌝ }
@@ -110,6 +110,13 @@ pub fn op_number(body: &[u8], i: u8) -> u64
     ensures { λ r. ⌜ r ≡ operandNumber (now (body .entry)) i ⌝ }
 {
     u64_at(body, 18 + 10 * i as usize + 2)
+}
+
+// A condition, and a near branch first.
+pub fn is_conditional_branch(body: &[u8]) -> bool
+    ensures { λ r. ⌜ r ≡ isConditionalBranch (now (body .entry)) ⌝ }
+{
+    (condition_code(body) != 0) & (op_kind(body, 0) == 2)
 }
 
 fn condition_ok(m: u8, c: u8) -> bool

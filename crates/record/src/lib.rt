@@ -3,6 +3,7 @@ pub mod asked;
 pub mod atlas;
 pub mod blocks;
 pub mod body;
+pub mod branches;
 pub mod header;
 pub mod layout;
 pub mod search;

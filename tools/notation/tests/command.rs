@@ -38,6 +38,21 @@ fn a_refused_record() {
     assert_eq!((text.status.code(), told(&text)), (Some(0), note));
 }
 
+/// A branch without its edge is no error of the text; the note says what a listing answers.
+#[test]
+fn a_contradicting_edge() {
+    let note = "-: note: the listing will be `no 15` (docs/READING.md says why)\n";
+    let branch = TEXT.replace("ret", "jne 1000");
+    let right = run(&["assemble", "-"], (branch.clone() + "  edge true 1000\n").as_bytes());
+    assert_eq!((right.status.code(), told(&right)), (Some(0), ""));
+    for edge in ["", "  edge true 1010\n", "  edge true 1000\n  edge true 1000\n"] {
+        let record = run(&["assemble", "-"], (branch.clone() + edge).as_bytes());
+        assert_eq!((record.status.code(), told(&record)), (Some(0), note));
+        let text = run(&["dump", "-"], &record.stdout);
+        assert_eq!((text.status.code(), told(&text)), (Some(0), note));
+    }
+}
+
 /// Nothing on standard output, and the file with the line.
 #[test]
 fn failures() {

@@ -96,32 +96,37 @@ fn describe(call: &Call) -> String {
     )
 }
 
-/// What each question asks, for people.
-const ASKED: [&str; 12] = [
-    "all get a yes",
-    "at least 24 bytes",
-    "bits, convention, shift",
-    "limits",
-    "length",
-    "counts and label marks",
-    "block starts",
-    "edge kinds",
-    "instructions and registers",
-    "atlas",
-    "spans",
-    "range",
+/// What each question asks, for people, by its number and in the order of asking.
+const ASKED: [(u8, &str); 13] = [
+    (0, "all get a yes"),
+    (1, "at least 24 bytes"),
+    (2, "bits, convention, shift"),
+    (3, "limits"),
+    (4, "length"),
+    (5, "counts and label marks"),
+    (6, "block starts"),
+    (7, "edge kinds"),
+    (8, "instructions and registers"),
+    (15, "True edges and branches"),
+    (9, "atlas"),
+    (10, "spans"),
+    (11, "range"),
 ];
 
 fn answer(n: u8) -> String {
-    format!("{n} ({})", ASKED.get(n as usize).unwrap_or(&"no such question"))
+    let asked = ASKED.iter().find(|(number, _)| *number == n);
+    format!("{n} ({})", asked.map_or("no such question", |(_, what)| what))
 }
 
 /// How often each answer came.
 #[derive(Default)]
 struct Histogram {
-    answers: [usize; 12],
+    /// By the answer's number.
+    answers: [usize; 16],
     sampled: usize,
     several: usize,
+    /// Of these, how many break both 8 and 15, and both 15 and 9.
+    around_15: [usize; 2],
 }
 
 impl Histogram {
@@ -129,17 +134,26 @@ impl Histogram {
         self.answers[answer as usize] += 1;
         if n % 16 == 3 && answer > 0 {
             self.sampled += 1;
-            self.several += (questions::count_of_no(&call.bytes, call.from, call.to) > 1) as usize;
+            let broken = questions::every_no(&call.bytes, call.from, call.to);
+            self.several += usize::from(broken.len() > 1);
+            for (count, beside) in self.around_15.iter_mut().zip([8, 9]) {
+                *count += usize::from(broken.contains(&15) && broken.contains(&beside));
+            }
         }
     }
 
     fn print(&self) {
         let calls: usize = self.answers.iter().sum();
         println!("first question that gets a no, of {calls} generated calls:");
-        for (n, count) in self.answers.iter().enumerate() {
-            println!("  {n:2} {:28} {count:9} {:5.1} %", ASKED[n], 100.0 * *count as f64 / calls.max(1) as f64);
+        for (n, what) in ASKED {
+            let count = self.answers[usize::from(n)];
+            println!("  {n:2} {what:28} {count:9} {:5.1} %", 100.0 * count as f64 / calls.max(1) as f64);
         }
-        println!("  of {} refused calls sampled, {} break more than one question", self.sampled, self.several);
+        let [with_8, with_9] = self.around_15;
+        println!(
+            "  of {} refused calls sampled, {} break more than one question, {with_8} both 8 and 15, {with_9} both 15 and 9",
+            self.sampled, self.several
+        );
     }
 }
 
@@ -158,7 +172,7 @@ fn each_call(seed: u64, count: usize, mut each: impl FnMut(usize, &Call) -> Resu
     Ok(())
 }
 
-/// Questions 1 to 11: the port against `questions.rs`, on all small changes of one record and on
+/// The questions of a record and a range: the port against `questions.rs`, on all small changes of one record and on
 /// so many generated calls.
 pub fn questions(seed: u64, count: usize) -> Result<bool, String> {
     let port = port::linked()?;
@@ -168,7 +182,7 @@ pub fn questions(seed: u64, count: usize) -> Result<bool, String> {
         let theirs = (port.first_no)(&call.bytes, call.from, call.to);
         tally.compared += 1;
         if ours != theirs {
-            tally.differs(call, || format!("document 01 says {}, the port {}", answer(ours), answer(theirs)))?;
+            tally.differs(call, || format!("the documents say {}, the port {}", answer(ours), answer(theirs)))?;
         }
         Ok(ours)
     };

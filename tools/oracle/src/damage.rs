@@ -1,6 +1,9 @@
 //! Calls that break chosen questions.
 
+mod branches;
+
 use crate::gen;
+use crate::questions;
 use crate::record::{Layout, BODY, HEADER};
 use crate::rng::Rng;
 
@@ -30,23 +33,27 @@ fn good_range(rng: &mut Rng, b: usize) -> (usize, usize) {
 
 /// A copy of a valid call that breaks one question, two, three, or whatever chance hits.
 pub fn damaged(rng: &mut Rng, base: &Call) -> Call {
-    let layout = Layout::of(&base.bytes);
     let mut call = base.clone();
     let how_many = match rng.below(100) {
         0..=59 => 1,
         60..=84 => 2,
         85..=89 => 3,
         _ => {
-            fuzz(rng, &layout, &mut call);
+            fuzz(rng, &Layout::of(&base.bytes), &mut call);
             return call;
         }
     };
-    let mut chosen: Vec<usize> = (0..how_many).map(|_| rng.range(1, 11)).collect();
-    // The header's sizes and the length last, so that the others still find their fields.
+    let mut chosen: Vec<u8> = (0..how_many).map(|_| rng.pick(&questions::numbers())).collect();
+    // 15 is asked between 8 and 9: often with one of them, so that the order shows.
+    if how_many > 1 && rng.percent(30) {
+        chosen[0] = 15;
+        chosen[1] = rng.pick(&[8, 9]);
+    }
+    // 15 first, which needs a record that can be read; the header's sizes and the length last, so that the others still find their fields.
     chosen.sort_by_key(|&q| (q <= 4, std::cmp::Reverse(q)));
     chosen.dedup();
     for q in chosen {
-        break_question(rng, &layout, &mut call, q);
+        break_question(rng, &mut call, q);
     }
     call
 }
@@ -79,7 +86,8 @@ pub fn each_small_change(mut each: impl FnMut(&Call) -> Result<(), String>) -> R
 }
 
 /// Breaks a question, if the record has what the question asks about.
-fn break_question(rng: &mut Rng, l: &Layout, call: &mut Call, question: usize) {
+fn break_question(rng: &mut Rng, call: &mut Call, question: u8) {
+    let l = &Layout::of(&call.bytes);
     match question {
         1 => call.bytes.truncate(rng.below(24)),
         2 => settings(rng, call),
@@ -91,7 +99,8 @@ fn break_question(rng: &mut Rng, l: &Layout, call: &mut Call, question: usize) {
         8 => instructions(rng, l, call),
         9 => atlas(rng, l, call),
         10 => spans(rng, l, call),
-        _ => range(rng, l, call),
+        11 => range(rng, l, call),
+        _ => branches::contradict(rng, call),
     }
 }
 

@@ -20,7 +20,7 @@ extern "C" {
     ) -> u64;
 }
 
-/// The first question of 1 to 11 that gets a no, or 0.
+/// The first question of a record and a range that gets a no, or 0.
 pub fn first_no(bytes: &[u8], from: usize, to: usize) -> u8 {
     // The function is total: it reads only the bytes lent.
     unsafe { record_first_no(bytes.as_ptr(), bytes.len(), from, to) }

@@ -8,7 +8,7 @@ mod real;
 use crate::record::{edge, kind, mnemonic as m, name, register as r, Block, Edge, Entry, Insn, Operand, Record};
 use crate::rng::Rng;
 
-use flow::{block_starts, blocks, branch, set_addresses, want_labels};
+use flow::{agree, block_starts, blocks, branch, set_addresses, want_labels};
 use insns::{any_insn, any_register, indirect, one};
 
 pub const LIMIT_B: usize = 200;
@@ -32,7 +32,7 @@ const NUMBERS: [u64; 44] = [
 struct World {
     bits: u16,
     frame: u8,
-    /// How often, in percent, an edge does not agree with its branch.
+    /// How often, in percent, a branch or its edges are not as a compiler has them.
     noise: usize,
     starts: Vec<u64>,
     /// Addresses that something in the record stands at.
@@ -96,18 +96,18 @@ fn of_bits(rng: &mut Rng, bits: u16, size: Size) -> Record {
     record.atlas = atlas::atlas(rng, &starts, &record.spans, size.atlas);
     let world = World { noise: rng.pick(&[0, 0, 4]), ..world(&record, starts) };
     record.blocks = blocks(rng, &world, size.insns);
-    keep_within_limits(&mut record);
+    settle(rng, &mut record);
     want_labels(rng, &mut record);
     record
 }
 
 /// A record of a few hundred bytes with something of everything.
 pub fn small() -> Record {
-    let mut other = Insn { address: 0x1000, count: 1, base: r::RBP, condition: 6, name: name("j_09az"), ..Insn::default() };
+    let mut other = Insn { address: 0x1004, count: 1, base: r::RBP, condition: 6, name: name("j_09az"), ..Insn::default() };
     other.operands[0] = Operand { kind: kind::NEAR, register: 0, number: 0x1000 };
-    let set = Insn { address: 0x1004, mnemonic: m::SETCC, condition: 1, count: 2, index: r::RAX, scale: 8, ..Insn::default() };
+    let set = Insn { address: 0x1000, mnemonic: m::SETCC, condition: 1, count: 2, index: r::RAX, scale: 8, ..Insn::default() };
     let mov = Insn { address: 0x1008, mnemonic: m::MOV, count: 2, segment: r::GS, skip: 1, ..Insn::default() };
-    let edges = vec![Edge { to: 0x1000, kind: edge::TRUE }, Edge { to: 0x1008, kind: edge::CASE }];
+    let to = |to: u64, kind: u8| Edge { to, kind };
     let entry = |address: u64, kind: u8, text: &str| Entry { address, kind, text: text.into() };
     Record {
         bits: 64,
@@ -115,9 +115,14 @@ pub fn small() -> Record {
         shift: -8,
         shift_given: 1,
         blocks: vec![
-            Block { start: 0x1000, label: 1, insns: vec![other, set], edges },
-            Block { start: 0x1100, insns: vec![mov], ..Block::default() },
-            Block { start: 0x1_1000, ..Block::default() },
+            Block {
+                start: 0x1000,
+                label: 1,
+                insns: vec![set, other],
+                edges: vec![to(0x1000, edge::TRUE), to(0x1008, edge::CASE)],
+            },
+            Block { start: 0x1100, insns: vec![mov], edges: vec![to(0x1_1000, edge::FALL)], ..Block::default() },
+            Block { start: 0x1_1000, edges: vec![to(0x1000, edge::UNCOND)], ..Block::default() },
         ],
         atlas: vec![entry(0x2000, 1, "a\n"), entry(0x2001, 2, ""), entry(0x1_0000, 3, "n~ ")],
         spans: vec![(0x1000, 0x1000), (0, u64::MAX)],
@@ -184,7 +189,7 @@ pub fn deepest(rng: &mut Rng) -> Record {
         set_addresses(rng, &mut block);
         record.blocks.push(block);
     }
-    keep_within_limits(&mut record);
+    settle(rng, &mut record);
     record
 }
 
@@ -192,6 +197,7 @@ pub fn deepest(rng: &mut Rng) -> Record {
 pub fn one_block(rng: &mut Rng) -> Record {
     let mut record = sized(rng, Size { blocks: (1, 1), insns: 12, atlas: 4, spans: 2 });
     record.blocks[0].insns.push(Insn { mnemonic: m::NOP, address: 0x7fff_0000, ..Insn::default() });
+    settle(rng, &mut record);
     record
 }
 
@@ -231,6 +237,7 @@ pub fn named(rng: &mut Rng) -> Record {
     for (n, i) in record.blocks[0].insns.iter_mut().enumerate() {
         i.operands[1].number = 0x5000 + (n as u64 % LIMIT_A as u64) * 16;
     }
+    settle(rng, &mut record);
     record
 }
 
@@ -249,7 +256,7 @@ pub fn repeated(blocks: usize) -> Record {
         }
         record.blocks.push(block);
     }
-    keep_within_limits(&mut record);
+    settle(rng, &mut record);
     record
 }
 
@@ -282,18 +289,18 @@ fn wordy(rng: &mut Rng) -> Record {
 /// Adds instructions and edges up to the given totals.
 pub fn fill_to(rng: &mut Rng, record: &mut Record, insns: usize, edges: usize) {
     let world = world(record, record.blocks.iter().map(|b| b.start).collect());
-    let l = record.layout();
-    for _ in l.i..insns {
+    for _ in record.layout().i..insns {
         let at = rng.below(record.blocks.len());
         let block = &mut record.blocks[at];
         let place = rng.below(block.insns.len().max(1));
         block.insns.insert(place, any_insn(rng, &world));
     }
-    for _ in l.e..edges {
+    for _ in record.layout().e..edges {
         let at = rng.below(record.blocks.len());
         let to = rng.pick(&world.starts);
         record.blocks[at].edges.push(Edge { to, kind: rng.below(5) as u8 });
     }
+    agree_within(rng, record, edges.max(LIMIT_E));
 }
 
 fn world(record: &Record, starts: Vec<u64>) -> World {
@@ -333,14 +340,25 @@ fn choose_frame(rng: &mut Rng, record: &mut Record) {
     }
 }
 
-fn keep_within_limits(record: &mut Record) {
-    let (mut insns, mut edges) = (LIMIT_I, LIMIT_E);
+/// Keeps instructions and edges within their limits, and each block's True edges as its last instruction asks for them.
+fn settle(rng: &Rng, record: &mut Record) {
+    let mut room = LIMIT_I;
     for b in &mut record.blocks {
-        while b.insns.len() > insns {
-            b.insns.remove(0);
-        }
-        b.edges.truncate(edges);
-        insns -= b.insns.len();
-        edges -= b.edges.len();
+        b.insns.drain(..b.insns.len().saturating_sub(room));
+        room -= b.insns.len();
+    }
+    agree_within(rng, record, LIMIT_E);
+}
+
+/// Makes True edges agree with last instructions, and drops others if there are more edges than `most` then.
+fn agree_within(rng: &Rng, record: &mut Record, most: usize) {
+    agree(&mut rng.aside(), record);
+    let mut over = record.layout().e.saturating_sub(most);
+    for b in record.blocks.iter_mut().rev() {
+        b.edges.retain(|e| {
+            let goes = over > 0 && e.kind != edge::TRUE;
+            over -= usize::from(goes);
+            !goes
+        });
     }
 }

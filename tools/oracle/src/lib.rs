@@ -1,5 +1,5 @@
 //! What the port is compared with: the unchanged Rust emitter over a record, the amended one where document 02 departs from it, and the
-//! questions of document 01 written a second time.
+//! questions of documents 01 and 02 written a second time.
 
 pub mod compare;
 pub mod damage;

@@ -7,7 +7,7 @@ use oracle::{compare, listing, questions, record, replay};
 
 const USAGE: &str = "usage: oracle list FILE [FROM TO]     the Rust's listing of a record (- for standard input)
        oracle example                the record of document 01's example, to standard output
-       oracle questions SEED COUNT   compare the port's questions 1 to 11
+       oracle questions SEED COUNT   compare the port's questions of a record and a range
        oracle pieces SEED COUNT      compare the port's operands, memory operands and conditions with the Rust's
        oracle lines SEED COUNT       compare the port's instruction lines with the Rust's
        oracle listing SEED COUNT     compare the port's listings with the Rust's

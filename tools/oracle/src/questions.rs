@@ -1,5 +1,5 @@
-//! Questions 1 to 11, written from document 01 alone and apart from `record.rs`. Every question is
-//! safe on any bytes: a read past the end answers 0.
+//! The questions of a record and a range, written from documents 01 and 02 alone and apart from `record.rs`. Every question
+//! is safe on any bytes: a read past the end answers 0.
 
 /// What a call lends, as far as the questions ask about it.
 struct Asked<'a> {
@@ -8,21 +8,39 @@ struct Asked<'a> {
     to: usize,
 }
 
-const QUESTIONS: [fn(&Asked) -> bool; 11] = [
-    has_header, has_known_settings, is_within_limits, has_announced_length, has_counts_that_add_up, has_different_starts,
-    has_known_edge_kinds, has_known_instructions, has_good_atlas, has_good_spans, has_good_range,
+type Question = fn(&Asked) -> bool;
+
+/// In the order of asking, each with its number: #108 has 15 asked "directly after 8 and before 9".
+const QUESTIONS: [(u8, Question); 12] = [
+    (1, has_header),
+    (2, has_known_settings),
+    (3, is_within_limits),
+    (4, has_announced_length),
+    (5, has_counts_that_add_up),
+    (6, has_different_starts),
+    (7, has_known_edge_kinds),
+    (8, has_known_instructions),
+    (15, has_edges_of_branches),
+    (9, has_good_atlas),
+    (10, has_good_spans),
+    (11, has_good_range),
 ];
+
+/// The numbers of the questions, in the order of asking.
+pub fn numbers() -> [u8; 12] {
+    QUESTIONS.map(|(number, _)| number)
+}
 
 /// The number of the first question that gets a no; 0 if all get a yes.
 pub fn first_no(bytes: &[u8], from: usize, to: usize) -> u8 {
     let asked = Asked { bytes, from, to };
-    QUESTIONS.iter().position(|yes| !yes(&asked)).map_or(0, |n| n as u8 + 1)
+    QUESTIONS.iter().find(|(_, yes)| !yes(&asked)).map_or(0, |(number, _)| *number)
 }
 
-/// How many of the questions get a no. Past a no to question 4 this is only a rough measure.
-pub fn count_of_no(bytes: &[u8], from: usize, to: usize) -> usize {
+/// The numbers of all questions that get a no. Past a no to question 4 this is only a rough measure.
+pub fn every_no(bytes: &[u8], from: usize, to: usize) -> Vec<u8> {
     let asked = Asked { bytes, from, to };
-    QUESTIONS.iter().filter(|yes| !yes(&asked)).count()
+    QUESTIONS.iter().filter(|(_, yes)| !yes(&asked)).map(|(number, _)| *number).collect()
 }
 
 impl Asked<'_> {
@@ -187,6 +205,26 @@ fn is_register(number: u16) -> bool {
         7 => index < 6,
         _ => false,
     }
+}
+
+// 15. "A block whose last instruction has a condition and, as first operand, a near branch must have exactly one True edge, to
+//     that branch's target; any other block must have none."
+fn has_edges_of_branches(q: &Asked) -> bool {
+    let (mut insns, mut edges) = (0, 0);
+    (0..q.blocks()).map(|n| q.marks_at() + 4 * n).all(|mark| {
+        let of_block = edges..edges + usize::from(q.u8(mark + 2));
+        let is_empty = q.u16(mark) == 0;
+        insns += usize::from(q.u16(mark));
+        edges = of_block.end;
+        let target = if is_empty { None } else { branch_target(q, q.bodies_at() + 92 * (insns - 1)) };
+        let taken = of_block.filter(|n| q.u8(q.edge_kinds_at() + n) == 1).map(|n| q.u64(q.targets_at() + 8 * n));
+        taken.eq(target)
+    })
+}
+
+/// Where the instruction branches to, if it has a condition and a near branch in its first operand's slot.
+fn branch_target(q: &Asked, body: usize) -> Option<u64> {
+    (q.u8(body + 1) != 0 && q.u8(body + 18) == 2).then(|| q.u64(body + 20))
 }
 
 // 9. Atlas addresses strictly rising, kinds 1 to 3, lengths total T, string bytes below 0x80,

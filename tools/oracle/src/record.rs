@@ -227,6 +227,14 @@ impl Layout {
     }
 }
 
+impl Block {
+    /// Where the last instruction branches to, if it has a condition and a near branch as first operand, counted or not.
+    pub fn branch_target(&self) -> Option<u64> {
+        let last = self.insns.last()?;
+        (last.condition != 0 && last.operands[0].kind == kind::NEAR).then_some(last.operands[0].number)
+    }
+}
+
 impl Record {
     pub fn layout(&self) -> Layout {
         let i = self.blocks.iter().map(|b| b.insns.len()).sum();
@@ -304,7 +312,7 @@ impl Record {
         }
     }
 
-    /// Reads a record whose questions 1 to 10 all got a yes.
+    /// Reads a record whose sizes agree: questions 1, 4, 5 and the lengths of 9 got a yes.
     pub fn parse(bytes: &[u8]) -> Record {
         let l = Layout::of(bytes);
         let mut insns = (0..l.i).map(|n| read_insn(bytes, &l, n));

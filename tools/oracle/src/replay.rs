@@ -60,11 +60,12 @@ pub fn corpus(count: usize, seed: u64) -> Result<Vec<u8>, String> {
 pub fn cases(count: usize, seed: u64) -> Result<Vec<Case>, String> {
     let mut rng = Rng::new(seed);
     let mut witnesses = witnesses();
+    let asked = questions::numbers();
     (0..count)
         .map(|n| match n % 10 {
             _ if n == 0 => listed(whole(&record::example()), 0),
             _ if n + 1 == count => listed(until_some(|| at_limits(&mut rng))?, 0),
-            6 | 7 => refused(&mut rng, (1 + n / 5 % 11) as u8),
+            6 | 7 => refused(&mut rng, asked[(n / 10 * 2 + n % 2) % asked.len()]),
             8 => too_short(&mut rng, n / 10 % 8),
             _ => listed(witnesses.next().unwrap_or_else(|| usual_call(&mut rng, n)), n),
         })

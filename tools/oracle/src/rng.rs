@@ -7,6 +7,11 @@ impl Rng {
         Rng(seed ^ 0x5851_f42d_4c95_7f2d)
     }
 
+    /// One that does not move this one: what it decides leaves all that comes after as it is.
+    pub fn aside(&self) -> Self {
+        Rng(self.0 ^ 0x2545_f491_4f6c_dd1d)
+    }
+
     pub fn u64(&mut self) -> u64 {
         self.0 = self.0.wrapping_add(0x9e37_79b9_7f4a_7c15);
         let mut z = self.0;

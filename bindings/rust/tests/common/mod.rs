@@ -6,9 +6,10 @@ use cakirotu::{Lists, Sizes};
 /// Where the example's arrays stand: block starts and marks, edge targets and kinds, instruction addresses and bodies.
 pub const STARTS: usize = 24;
 pub const MARKS: usize = STARTS + 3 * 8;
-pub const EDGE_KINDS: usize = MARKS + 3 * 4 + 3 * 8;
+pub const EDGE_TARGETS: usize = MARKS + 3 * 4;
+pub const EDGE_KINDS: usize = EDGE_TARGETS + 3 * 8;
 pub const BODIES: usize = EDGE_KINDS + 3 + 4 * 8;
-const BODY: usize = 92;
+pub const BODY: usize = 92;
 
 const EAX: u8 = 64;
 const NAMED: u8 = 0;

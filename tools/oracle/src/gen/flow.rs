@@ -155,9 +155,12 @@ pub fn branch(rng: &mut Rng, world: &World, block: &mut Block, to: usize, place:
     let target = world.starts[to];
     let mut insn = jcc(rng, world, target);
     if rng.percent(world.noise) {
-        // A branch that is no near branch, or has none of its operands counted.
+        // A branch that is no near branch.
         insn.operands[0] = operand(rng, world);
         insn.count = rng.below(6) as u8;
+    } else if rng.aside().percent(2 * world.noise) {
+        // A near branch that is not counted: it is read all the same.
+        insn.count = 0;
     }
     block.insns.push(insn);
     let told = if rng.percent(world.noise) { any_target(rng, world) } else { target };
@@ -179,7 +182,7 @@ fn jump(rng: &mut Rng, world: &World, block: &mut Block, target: u64) {
     block.edges.push(Edge { to: target, kind: edge::UNCOND });
 }
 
-/// A setcc or cmovcc at the end of a block, with a True edge.
+/// A setcc or cmovcc at the end of a block, now and then with a near branch, and an edge.
 fn set_with_edge(rng: &mut Rng, world: &World, block: &mut Block) {
     block.insns.push(flag_writer(rng, world));
     let mut insn = conditional(rng, world);
@@ -188,6 +191,24 @@ fn set_with_edge(rng: &mut Rng, world: &World, block: &mut Block) {
     }
     block.insns.push(insn);
     block.edges.push(Edge { to: any_target(rng, world), kind: edge::TRUE });
+}
+
+/// Gives each block the True edges that its last instruction asks for (question 15): the one to its branch's target, anywhere among the
+/// others, or none. Other True edges become edges of another kind.
+pub fn agree(rng: &mut Rng, record: &mut Record) {
+    for block in &mut record.blocks {
+        let target = block.branch_target();
+        let right = block.edges.iter().position(|e| e.kind == edge::TRUE && Some(e.to) == target);
+        for (n, e) in block.edges.iter_mut().enumerate() {
+            if e.kind == edge::TRUE && Some(n) != right {
+                e.kind = rng.pick(&[edge::UNCOND, edge::FALSE, edge::FALL, edge::CASE]);
+            }
+        }
+        if let (Some(to), None) = (target, right) {
+            let at = rng.below(block.edges.len() + 1);
+            block.edges.insert(at, Edge { to, kind: edge::TRUE });
+        }
+    }
 }
 
 fn any_target(rng: &mut Rng, world: &World) -> u64 {
