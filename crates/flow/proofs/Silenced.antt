@@ -25,7 +25,7 @@ use Rattle.record.specs.Body.{bodyAt, mnemonicOf, conditionOf, operandKind, ope
 use Rattle.cfg.specs.Graph.{firstIn, countIn, endingIn, branchTo, lastIn, isShown}
 use Rattle.structure.specs.Plan.{goesNext}
 use Rattle.structure.specs.Demand.{Context, lastSilent, silent, unsilenced, unsilencedIn}
-use Rattle.structure.specs.Demand.Context.{in-range, in-body, last-in-body}
+use Rattle.structure.specs.Demand.Context.{in-range, last-in-body}
 use Rattle.flow.specs.Silent.{folded, isDirectJmp, isSkipped, isSilentItself, endingOf}
 use Rattle.flow.specs.Rows.{placeOf, blockEnding, blockBranch, blockRows, shownRows}
 use Rattle.flow.specs.SilentList.{bodyIn, isSilent, unsilent, unsilentIn}
@@ -39,7 +39,7 @@ ending z j n = pick (not z && n) 2 (pick (not z) 1 (pick j 3 0))
 
 -- a last instruction in a range being written: x is skip-marked, noise or one of the seven; g and r say that a jmp goes to the next block
 range-rule : (z j n x g r : Bool) → (j && not z) ≡ false → (ending z j n ≡ 3 → g ≡ r)
-    → ((j && (not true || false || g)) || (not (true && ((not z && n) || false || (j && not false))) && x))
+    → ((j && (not true || g)) || (not (true && ((not z && n) || false || j)) && x))
     ≡ pick (eqb (ending z j n) 2) false (pick (eqb (ending z j n) 3) r (x || j))
 range-rule true true n x g r p q = or-false g ∙ q refl
 range-rule true false n x g r p q = sym (or-false x)
@@ -47,18 +47,8 @@ range-rule false true n x g r p q = absurd (true≢false p)
 range-rule false false true x g r p q = refl
 range-rule false false false x g r p q = sym (or-false x)
 
--- in a do-body, other than its last block
-body-rule : (z j n x : Bool) → (j && not z) ≡ false
-    → ((j && (not true || true || false)) || (not (true && ((not z && n) || false || (j && not true))) && x))
-    ≡ pick (eqb (ending z j n) 2) false (pick (eqb (ending z j n) 3) true (x || j))
-body-rule true true n x p = refl
-body-rule true false n x p = sym (or-false x)
-body-rule false true n x p = absurd (true≢false p)
-body-rule false false true x p = refl
-body-rule false false false x p = sym (or-false x)
-
 -- last in a do-body
-last-rule : (z j n x : Bool) → ((j && (not true || false || false)) || (not (true && ((not z && n) || true || (j && not false))) && x)) ≡ false
+last-rule : (z j n x : Bool) → ((j && (not true || false)) || (not (true && ((not z && n) || true || j)) && x)) ≡ false
 last-rule true true n x = refl
 last-rule true false n x = refl
 last-rule false true true x = refl
@@ -118,9 +108,6 @@ module _ (h : Header) (s : List ℕ) (k : ℕ) (below : k < h .blocks) where
       last-silent (in-range end) =
           rw (last-is, ← e, eq-eqb i i refl, ends, not-shown)
           (range-rule (eqb (conditionOf body) 0) (isDirectJmp body) (eqb (operandKind body 0) 2) marked _ _ (plain i within) (goes end))
-      last-silent in-body =
-          rw (last-is, ← e, eq-eqb i i refl, ends, not-shown)
-          (body-rule (eqb (conditionOf body) 0) (isDirectJmp body) (eqb (operandKind body 0) 2) marked (plain i within))
       last-silent last-in-body =
           rw (← e, eq-eqb i i refl)
           (last-rule (eqb (conditionOf body) 0) (isDirectJmp body) (eqb (operandKind body 0) 2) marked)

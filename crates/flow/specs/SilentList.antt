@@ -10,20 +10,13 @@ use Rattle.record.specs.Layout.{marksOf, bodiesOf}
 use Rattle.record.specs.Blocks.{instructionsIn, firstInstruction}
 use Rattle.record.specs.Body.{bodyAt, mnemonicOf, isConditionalBranch, operandNumber}
 use Rattle.structure.specs.Demand.{Context}
-use Rattle.structure.specs.Demand.Context.{in-range, in-body, last-in-body}
+use Rattle.structure.specs.Demand.Context.{in-range, last-in-body}
 use Rattle.flow.specs.Silent.{folded, isDirectJmp, isSkipped}
 use Rattle.flow.specs.Rows.{placeOf}
-
--- in a do-body, other than its last block
-abbrev pub inBody : Context → Bool
-inBody (in-range end) = false
-inBody in-body = true
-inBody last-in-body = false
 
 -- last in a do-body, where the last instruction is the loop's closing test
 abbrev pub closesBody : Context → Bool
 closesBody (in-range end) = false
-closesBody in-body = false
 closesBody last-in-body = true
 
 module _ (h : Header) (s : List ℕ) where
@@ -34,20 +27,20 @@ module _ (h : Header) (s : List ℕ) where
   abbrev pub isLast : ℕ → ℕ → Bool
   isLast k i = eqb i (firstInstruction (marksOf h s) k + instructionsIn (marksOf h s) k - 1)
 
-  -- "goes to the next block when that lies in the range being written"
+  -- "goes to the next block when that lies in the range being written"; to a block of a do-body the loop is that range
   abbrev pub jumpsNext : Context → ℕ → ℕ → Bool
   jumpsNext (in-range end) k i = eqb (placeOf h s (operandNumber (bodyIn i) 0)) (k + 1) && ltb (k + 1) end
-  jumpsNext in-body k i = false
   jumpsNext last-in-body k i = false
 
-  -- "a direct jmp that isn't last, or is in a do-body, or goes to the next block when that lies in the range being written"
+  -- "a direct jmp that isn't last, .. or goes to the next block when that lies in the range being written"; #101: one in a do-body too gets
+  -- "the same goto or return line as elsewhere, unless the target is the next block"
   abbrev pub isSilentJmp : Context → ℕ → ℕ → Bool
-  isSilentJmp c k i = isDirectJmp (bodyIn i) && (not (isLast k i) || inBody c || jumpsNext c k i)
+  isSilentJmp c k i = isDirectJmp (bodyIn i) && (not (isLast k i) || jumpsNext c k i)
 
-  -- "A block's closing conditional branch, a loop's closing test and a last direct jmp outside do-bodies aren't silenced by the
-  -- skip mark."
+  -- "A block's closing conditional branch, a loop's closing test and a last direct jmp .. aren't silenced by the skip mark."; of jumps in a
+  -- do-body #101: "The silent list loses that entry, and the skip mark, for those jumps."
   abbrev pub isSpared : Context → ℕ → ℕ → Bool
-  isSpared c k i = isLast k i && (isConditionalBranch (bodyIn i) || closesBody c || (isDirectJmp (bodyIn i) && not (inBody c)))
+  isSpared c k i = isLast k i && (isConditionalBranch (bodyIn i) || closesBody c || isDirectJmp (bodyIn i))
 
   -- "Silent: skip-marked or prologue noise (`is_prologue_noise` says so); cmp, test, push, cdq, cqo, cdqe, cwde; a direct jmp that
   -- isn't last, .."

@@ -37,7 +37,7 @@ use Rattle.expressions.specs.Condition.{flagWriter, afterWriter, conditionToken
 use Rattle.cfg.specs.Graph.{closesLoop, hasEdge, endingIn}
 use Rattle.cfg.specs.Shape.{shapeAt, lastLoop, regionAt, opensRegion}
 use Rattle.structure.specs.Tree.{treeOf, treeGo}
-use Rattle.structure.specs.Plan.{rangeLines, treeLines, plainLines, shownLines, bodyCount, closingLines}
+use Rattle.structure.specs.Plan.{rangeLines, treeLines, shownLines, bodyCount, closingLines, blockLines}
 use Rattle.flow.specs.Silent.{isSilentItself, isPrologueNoise, endingOf}
 use Rattle.flow.specs.Rows.{rowsFrom, blockRow, edgeRow, shownRow, blockEnding, blockBranch, placeOf, blockRows, edgeRows, shownRows}
 use Rattle.flow.specs.Planned.{recordPlan}
@@ -260,7 +260,7 @@ hex l (suc k) v h =
     ]
 
 pub all-print : map answered cases ≡ map (λ (c : Case). (0, c .expected)) cases
-unfolding cases flatten flatMap headerOf firstNo sizesNo blocksNo contentsNo rangeNo marksAsked startsAsked edgeKindsAsked bodiesAsked branchesAsked atlasAsked spansAsked branchesOk branchOk branchAgrees trueCount trueLead marksOk startsDiffer startIsNew edgeKindsOk bodiesOk bodyOk fixedOk operandsOk operandOk isName isZeros registerExists atlasOk entriesOk textsOk textOk spansOk join run printed lineTokens piecesTokens rowOf insnForm plainForm recordPlan blockRows edgeRows edgeRow shownRows shownRow rowsFrom blockRow firstInstruction firstEdge blockEnding blockBranch endingOf placeOf findFrom isSilentItself isPrologueNoise isStackPointer rangeLines treeLines treeOf treeGo shapeAt lastLoop lastFrom closesLoop hasEdge endingIn regionAt opensRegion plainLines shownLines bodyCount closingLines relationAfterOther pieceTokens opTokens immediate immediateNumber signedRead memTokens memExpr addressExpr displacement typeWord sizeType sizeTypes slotToken isSlot slotNumber slotDisplacement addsToWord slotBase nameOr entryAt entryToken textStart inSpan prefixed numText sign sizeText hexOf digit registerName registerNames literalText opening closing escapes escape conditionTokens flagWriter afterWriter writesFlags mnemonicName mnemonicNames conditionName conditionNames operatorText relationAfterCmp printsUnsigned
+unfolding cases flatten flatMap headerOf firstNo sizesNo blocksNo contentsNo rangeNo marksAsked startsAsked edgeKindsAsked bodiesAsked branchesAsked atlasAsked spansAsked branchesOk branchOk branchAgrees trueCount trueLead marksOk startsDiffer startIsNew edgeKindsOk bodiesOk bodyOk fixedOk operandsOk operandOk isName isZeros registerExists atlasOk entriesOk textsOk textOk spansOk join run printed lineTokens piecesTokens rowOf insnForm plainForm recordPlan blockRows edgeRows edgeRow shownRows shownRow rowsFrom blockRow firstInstruction firstEdge blockEnding blockBranch endingOf placeOf findFrom isSilentItself isPrologueNoise isStackPointer rangeLines treeLines treeOf treeGo shapeAt lastLoop lastFrom closesLoop hasEdge endingIn regionAt opensRegion shownLines bodyCount closingLines blockLines relationAfterOther pieceTokens opTokens immediate immediateNumber signedRead memTokens memExpr addressExpr displacement typeWord sizeType sizeTypes slotToken isSlot slotNumber slotDisplacement addsToWord slotBase nameOr entryAt entryToken textStart inSpan prefixed numText sign sizeText hexOf digit registerName registerNames literalText opening closing escapes escape conditionTokens flagWriter afterWriter writesFlags mnemonicName mnemonicNames conditionName conditionNames operatorText relationAfterCmp printsUnsigned
 all-print =
     rw (
       hex false 0 10 (omega arith),

@@ -11,11 +11,11 @@ use Rattle.cfg.specs.Graph.{firstIn, countIn, endingIn, lastIn, labelWanted}
 use Rattle.cfg.proofs.Within.{closes-some}
 use Rattle.structure.specs.Tree.{Tree}
 use Rattle.structure.specs.Tree.Tree.{over, plain, region, loop}
-use Rattle.structure.specs.Plan.{Line, labelIf, labelled, headLabelled, bodyLines, plainLines, flatBlock, flatLines, testBlock, loopLines, regionLines, treeLines}
+use Rattle.structure.specs.Plan.{Line, labelIf, labelled, headLabelled, innerLabelled, bodyLines, blockLines, plainLines, flatLines, testBlock, loopLines, regionLines, treeLines}
 use Rattle.structure.specs.Demand.{Context, contexts, unsilenced, unsilencedIn, counted}
-use Rattle.structure.specs.Demand.Context.{in-range, in-body, last-in-body}
+use Rattle.structure.specs.Demand.Context.{in-range, last-in-body}
 use Rattle.structure.proofs.Grown.{Fits}
-use Rattle.structure.proofs.Unsilenced.{counted-join, unsilenced-join, last-counted, plain-counted, flat-counted, head-counted}
+use Rattle.structure.proofs.Unsilenced.{counted-join, unsilenced-join, last-counted, block-counted, head-counted}
 
 pub contexts-length : (blocks edges : List ℕ) (t : Tree) (i to : ℕ) → Fits blocks edges t i to → length (contexts t i to) ≡ to - i
 unfolding contexts
@@ -47,23 +47,24 @@ module _ (blocks edges shown : List ℕ) (B : ℕ) where
   unfolding unsilencedIn
   one-block c k cs = rw (add-one k)
 
-  flats-addresses : (i k n d : ℕ) → counted (flatLines blocks shown i k n d) ≡ leftIn k (replicate n in-body)
-  unfolding flatLines flatBlock counted unsilencedIn
-  flats-addresses i k zero d = refl
-  flats-addresses i k (suc n) d =
-      counted-join (flatBlock blocks shown i k d) (flatLines blocks shown i (suc k) n d)
-      ∙ rw (label-counted, flat-counted blocks shown k d, flats-addresses i (suc k) n d)
+  block-addresses : (b : Bool) (k to d : ℕ) → counted (blockLines blocks shown b k to d) ≡ left (in-range to) k
+  unfolding blockLines
+  block-addresses b k to d = label-counted b k d _ ∙ block-counted blocks shown k to d
 
-  loop-addresses : (i j d : ℕ) → 1 ≤ countIn blocks j → counted (loopLines blocks edges shown B i j d) ≡ leftIn i (replicate (j - i) in-body) ++ left last-in-body j
+  flats-addresses : (i j k n d : ℕ) → counted (flatLines blocks shown i j k n d) ≡ leftIn k (replicate n (in-range (j + 1)))
+  unfolding flatLines counted unsilencedIn
+  flats-addresses i j k zero d = refl
+  flats-addresses i j k (suc n) d =
+      counted-join (blockLines blocks shown (innerLabelled blocks i k) k (j + 1) d) (flatLines blocks shown i j (suc k) n d)
+      ∙ rw (block-addresses (innerLabelled blocks i k) k (j + 1) d, flats-addresses i j (suc k) n d)
+
+  loop-addresses : (i j d : ℕ) → 1 ≤ countIn blocks j
+      → counted (loopLines blocks edges shown B i j d) ≡ leftIn i (replicate (j - i) (in-range (j + 1))) ++ left last-in-body j
   unfolding loopLines testBlock counted
   loop-addresses i j d h =
       label-counted (headLabelled blocks edges B i j) i d _
-      ∙ counted-join (flatLines blocks shown i i (j - i) (d + 1)) (testBlock blocks shown j d)
-      ∙ rw (flats-addresses i i (j - i) (d + 1), label-counted (labelWanted blocks j) j (d + 1), last-counted blocks shown j d h)
-
-  plain-addresses : (from i to d : ℕ) → counted (plainLines blocks edges shown B from i to d) ≡ left (in-range to) i
-  unfolding plainLines
-  plain-addresses from i to d = label-counted (labelled blocks edges B from i to) i d _ ∙ plain-counted blocks shown i to d
+      ∙ counted-join (flatLines blocks shown i j i (j - i) (d + 1)) (testBlock blocks shown j d)
+      ∙ rw (flats-addresses i j i (j - i) (d + 1), label-counted (labelWanted blocks j) j (d + 1), last-counted blocks shown j d h)
 
   region-addresses : (from i to d : ℕ) (inner : List Line) → endingIn blocks i ≡ 2
       → counted (regionLines blocks edges shown B inner from i to d) ≡ left (in-range to) i ++ counted inner
@@ -80,7 +81,7 @@ module _ (blocks edges shown : List ℕ) (B : ℕ) where
   tree-addresses over from i to d f = refl
   tree-addresses (plain r) from i to d f =
       counted-join (plainLines blocks edges shown B from i to d) (treeLines blocks edges shown B r from (i + 1) to d)
-      ∙ rw (plain-addresses from i to d, tree-addresses r from (i + 1) to d (f .1)) (sym (one-block (in-range to) i (contexts r (i + 1) to)))
+      ∙ rw (block-addresses (labelled blocks edges B from i to) i to d, tree-addresses r from (i + 1) to d (f .1)) (sym (one-block (in-range to) i (contexts r (i + 1) to)))
   tree-addresses (region t a r) from i to d f =
       let e : i + 1 + length (contexts a (i + 1) t) ≡ t = omega (arith, contexts-length blocks edges a (i + 1) t (f .4)) in
       counted-join (regionLines blocks edges shown B (treeLines blocks edges shown B a (i + 1) (i + 1) t (d + 1)) from i to d) (treeLines blocks edges shown B r from t to d)
@@ -88,8 +89,8 @@ module _ (blocks edges shown : List ℕ) (B : ℕ) where
       (append-assoc (left (in-range to) i) _ _
       ∙ sym (one-block (in-range to) i (contexts a (i + 1) t ++ contexts r t to) ∙ rw (left-then (i + 1) t (contexts a (i + 1) t) (contexts r t to) e)))
   tree-addresses (loop j r) from i to d f =
-      let e : i + length (replicate (j - i) in-body) ≡ j = rw length-replicate (omega arith) in
+      let e : i + length (replicate (j - i) (in-range (j + 1))) ≡ j = rw length-replicate (omega arith) in
       counted-join (loopLines blocks edges shown B i j d) (treeLines blocks edges shown B r from (j + 1) to d)
       ∙ rw (loop-addresses i j d (closes-some blocks edges i j (f .2)), tree-addresses r from (j + 1) to d (f .3))
-      (append-assoc (leftIn i (replicate (j - i) in-body)) _ _
-      ∙ sym (left-then i j (replicate (j - i) in-body) (last-in-body ∷ contexts r (j + 1) to) e ∙ rw (one-block last-in-body j (contexts r (j + 1) to))))
+      (append-assoc (leftIn i (replicate (j - i) (in-range (j + 1)))) _ _
+      ∙ sym (left-then i j (replicate (j - i) (in-range (j + 1))) (last-in-body ∷ contexts r (j + 1) to) e ∙ rw (one-block last-in-body j (contexts r (j + 1) to))))

@@ -13,7 +13,7 @@ use Rattle.structure.specs.Plan.What.{label-line, do-line, open-line, if
 use Rattle.structure.specs.Demand.{Brace, Nested, Shallow}
 use Rattle.structure.specs.Demand.Brace.{if-brace, do-brace}
 use Rattle.structure.proofs.Grown.{Fits}
-use Rattle.structure.proofs.Plain.{Braceless, endIn, labels-all, body-all, test-all, plain-all, flats-all}
+use Rattle.structure.proofs.Plain.{Braceless, endIn, labels-all, body-all, test-all, block-all, flats-all}
 
 -- whatever nests, nests with these lines in front
 abbrev Flat : List Line → Type 0
@@ -47,7 +47,7 @@ module _ (blocks edges shown : List ℕ) (B : ℕ) where
       flat-join (labelIf (headLabelled blocks edges B i j) i d) _ (flat-labels d (headLabelled blocks edges B i j) i)
       (λ st ys n.
       simp append-assoc
-      (flats-all blocks shown Flat flat-none flat-join (d + 1) i i (j - i) (λ k a b. flat-one blocks (d + 1) k) (do-brace d ∷ st) _
+      (flats-all blocks shown Flat flat-none flat-join (d + 1) i j i (j - i) (λ k a b. flat-one blocks (d + 1) k) (do-brace d ∷ st) _
       (flat-labels (d + 1) (labelWanted blocks j) j (do-brace d ∷ st) _
       (test-all blocks shown Flat flat-none flat-join (d + 1) j (flat-one blocks (d + 1) j) (do-brace d ∷ st) (line while-line j (lastIn blocks j) d ∷ ys) (refl, n)))))
 
@@ -61,7 +61,7 @@ module _ (blocks edges shown : List ℕ) (B : ℕ) where
   unfolding treeLines
   tree-flat over from i to d = flat-none
   tree-flat (plain r) from i to d =
-      flat-join (plainLines blocks edges shown B from i to d) _ (plain-all blocks shown Flat flat-none flat-join d i (flat-one blocks d i) edges B from to)
+      flat-join (plainLines blocks edges shown B from i to d) _ (block-all blocks shown Flat flat-none flat-join d i (flat-one blocks d i) (labelled blocks edges B from i to) to)
       (tree-flat r from (i + 1) to d)
   tree-flat (region t a r) from i to d =
       let inner = treeLines blocks edges shown B a (i + 1) (i + 1) t (d + 1) in
@@ -91,8 +91,8 @@ module _ (blocks edges shown : List ℕ) (B m : ℕ) where
   loop-low i j d h =
       shallow-join m (labelIf (headLabelled blocks edges B i j) i d) _ (low-labels d (omega arith) (headLabelled blocks edges B i j) i) (
         omega arith,
-        shallow-join m (flatLines blocks shown i i (j - i) (d + 1)) _
-            (flats-all blocks shown (Shallow m) tt (shallow-join m) (d + 1) i i (j - i) (λ k a b. low blocks m (d + 1) h k))
+        shallow-join m (flatLines blocks shown i j i (j - i) (d + 1)) _
+            (flats-all blocks shown (Shallow m) tt (shallow-join m) (d + 1) i j i (j - i) (λ k a b. low blocks m (d + 1) h k))
             (shallow-join m (labelIf (labelWanted blocks j) j (d + 1)) _ (low-labels (d + 1) h (labelWanted blocks j) j)
             (shallow-join m (shownLines shown j (firstIn blocks j) (countIn blocks j - 1) (d + 1)) _
             (test-all blocks shown (Shallow m) tt (shallow-join m) (d + 1) j (low blocks m (d + 1) h j)) (omega arith, tt))),
@@ -109,7 +109,7 @@ module _ (blocks edges shown : List ℕ) (B m : ℕ) where
   tree-low over from i to d f h = tt
   tree-low (plain r) from i to d f h =
       shallow-join m (plainLines blocks edges shown B from i to d) _
-      (plain-all blocks shown (Shallow m) tt (shallow-join m) d i (low blocks m d (omega arith) i) edges B from to)
+      (block-all blocks shown (Shallow m) tt (shallow-join m) d i (low blocks m d (omega arith) i) (labelled blocks edges B from i to) to)
       (tree-low r from (i + 1) to d (f .1) (omega arith))
   tree-low (region t a r) from i to d f h =
       let inner = treeLines blocks edges shown B a (i + 1) (i + 1) t (d + 1) in

@@ -1,12 +1,11 @@
 -- A range has at most a line for each of its instructions and two for each of its blocks.
 -- A block has a label at most and a line for each instruction; a loop or a region has one line more. An induction over the tree.
 use mathlib.Core.Path.{_≡_, refl, ap, _∙_}
-use mathlib.Core.Bool.{Bool, true, false, _&&_}
+use mathlib.Core.Bool.{Bool, true, false}
 use mathlib.Core.List.{List, [], _∷_}
 use Prim.Native.Nat.{ℕ, zero, suc, _+_, _-_, _*_, _≤_, _<_, zero-le}
 use native.Mathlib.Nat.{le-refl}
 use native.Mathlib.Omega.{arith}
-use lib.Dec.{ltb}
 use lib.ListN.{getD, length, length-append}
 use borrow.Author.Tests.{eq-eqb}
 use Rattle.lists.specs.Choice.{pick, sumBelow}
@@ -14,7 +13,7 @@ use Rattle.cfg.specs.Graph.{firstIn, countIn, endingIn, endsInBranch, endsInJmp
 use Rattle.cfg.proofs.Within.{pick-both, ends-some, closes-some}
 use Rattle.structure.specs.Tree.{Tree, treeOf}
 use Rattle.structure.specs.Tree.Tree.{over, plain, region, loop}
-use Rattle.structure.specs.Plan.{Line, line, labelIf, labelled, headLabelled, shownLines, bodyCount, goesNext, branchLines, closingLines, plainLines, flatBlock, flatLines, testBlock, loopLines, regionLines, treeLines, rangeLines, planOf}
+use Rattle.structure.specs.Plan.{Line, line, labelIf, labelled, headLabelled, innerLabelled, shownLines, bodyCount, goesNext, closingLines, blockLines, flatLines, testBlock, loopLines, regionLines, treeLines, rangeLines, planOf}
 use Rattle.structure.specs.Plan.What.{goto-line, tail-call}
 use Rattle.structure.specs.Demand.{instructionsFrom}
 use Rattle.structure.proofs.Grown.{Fits, tree-fits}
@@ -91,49 +90,29 @@ module _ (blocks edges shown : List ℕ) (B : ℕ) where
       by false true p q = rw (p, q) (omega (arith, ends-some blocks k 2 q, jump-few (goesNext blocks k to) (line (pick (isBlock (branchTo blocks k)) goto-line tail-call) k (lastIn blocks k) d)))
       by false false p q = rw (p, q) (omega arith)
 
-  branch-few : (k d : ℕ) → bodyCount blocks k + length (branchLines blocks k d) ≤ counts k
-  unfolding bodyCount
-  branch-few k d = by (endsInBranch blocks k) (endsInJmp blocks k) refl refl
-    where
-      by : (b₂ b₃ : Bool) → endsInBranch blocks k ≡ b₂ → endsInJmp blocks k ≡ b₃ → bodyCount blocks k + length (branchLines blocks k d) ≤ counts k
-      by true b₃ p q = rw p (omega (arith, ends-some blocks k 1 p))
-      by false true p q = rw (p, q) (omega arith)
-      by false false p q = rw (p, q) (omega arith)
-
   head-few : (k : ℕ) → endingIn blocks k ≡ 2 → bodyCount blocks k + 1 ≤ counts k
   unfolding bodyCount
   head-few k e =
       let p : endsInBranch blocks k ≡ true = eq-eqb (endingIn blocks k) 2 e in
       rw p (omega (arith, ends-some blocks k 1 p))
 
-  plain-few : (from i to d : ℕ) → length (plainLines blocks edges shown B from i to d) ≤ 1 + counts i
-  unfolding plainLines
-  plain-few from i to d =
+  block-few : (b : Bool) (k to d : ℕ) → length (blockLines blocks shown b k to d) ≤ 1 + counts k
+  unfolding blockLines
+  block-few b k to d =
       simp length-append
       (omega (
         arith,
-        label-few (labelled blocks edges B from i to) i d,
-        lines-few i (firstIn blocks i) (bodyCount blocks i) d,
-        closing-few i to d,
-      ))
-
-  flat-few : (i k d : ℕ) → length (flatBlock blocks shown i k d) ≤ 1 + counts k
-  unfolding flatBlock
-  flat-few i k d =
-      simp length-append
-      (omega (
-        arith,
-        label-few (ltb i k && labelWanted blocks k) k d,
+        label-few b k d,
         lines-few k (firstIn blocks k) (bodyCount blocks k) d,
-        branch-few k d,
+        closing-few k to d,
       ))
 
-  flats-few : (i k n d : ℕ) → length (flatLines blocks shown i k n d) ≤ sumBelow (λ m. counts (k + m)) n + n
+  flats-few : (i j k n d : ℕ) → length (flatLines blocks shown i j k n d) ≤ sumBelow (λ m. counts (k + m)) n + n
   unfolding flatLines
-  flats-few i k zero d = zero-le
-  flats-few i k (suc n) d =
+  flats-few i j k zero d = zero-le
+  flats-few i j k (suc n) d =
       let s : sumBelow (λ m. counts (k + m)) (suc n) ≡ counts k + sumBelow (λ m. counts (suc k + m)) n = sum-front counts k n in
-      simp length-append (omega (arith, flat-few i k d, flats-few i (suc k) n d))
+      simp length-append (omega (arith, block-few (innerLabelled blocks i k) k (j + 1) d, flats-few i j (suc k) n d))
 
   loop-few : (i j d : ℕ) → 1 ≤ counts j → length (loopLines blocks edges shown B i j d) ≤ total i j + (j - i) + counts j + 3
   unfolding loopLines testBlock
@@ -142,7 +121,7 @@ module _ (blocks edges shown : List ℕ) (B : ℕ) where
       (omega (
         arith,
         label-few (headLabelled blocks edges B i j) i d,
-        flats-few i i (j - i) (d + 1),
+        flats-few i j i (j - i) (d + 1),
         label-few (labelWanted blocks j) j (d + 1),
         lines-few j (firstIn blocks j) (counts j - 1) (d + 1),
       ))
@@ -163,7 +142,7 @@ module _ (blocks edges shown : List ℕ) (B : ℕ) where
   tree-few over from i to d f = zero-le
   tree-few (plain r) from i to d f =
       simp length-append
-      (omega (arith, plain-few from i to d, tree-few r from (i + 1) to d (f .1), total-split i (i + 1) to (omega arith) (omega arith), total-one i))
+      (omega (arith, block-few (labelled blocks edges B from i to) i to d, tree-few r from (i + 1) to d (f .1), total-split i (i + 1) to (omega arith) (omega arith), total-one i))
   tree-few (region t a r) from i to d f =
       let inner = treeLines blocks edges shown B a (i + 1) (i + 1) t (d + 1) in
       rw (length-append (regionLines blocks edges shown B inner from i to d))

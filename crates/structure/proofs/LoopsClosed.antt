@@ -12,7 +12,7 @@ use Rattle.structure.specs.Tree.Tree.{over, plain, region, loop}
 use Rattle.structure.specs.Plan.{What, Line, line, labelIf, labelled, headLabelled, bodyLines, plainLines, loopLines, testBlock, regionLines, treeLines, rangeLines, planOf}
 use Rattle.structure.specs.Plan.What.{label-line, do-line, open-line, if-goto, while-line, close-line, goto-line, tail-call, insn-line}
 use Rattle.structure.proofs.Grown.{Fits, tree-fits}
-use Rattle.structure.proofs.Plain.{Braceless, endIn, labels-all, body-all, test-all, plain-all, flats-all}
+use Rattle.structure.proofs.Plain.{Braceless, endIn, labels-all, body-all, test-all, block-all, flats-all}
 
 -- a line of place k and instruction `at`, read with the place i of the latest do-line; then the rest of the lines
 abbrev pub loopThen : (ℕ → ℕ → ℕ → Type 0) → What → ℕ → ℕ → ℕ → (ℕ → Type 0) → Type 0
@@ -79,7 +79,7 @@ module _ (blocks edges shown : List ℕ) (B m : ℕ) where
       kept-join (labelIf (headLabelled blocks edges B i j) i d) _ (kept (labelIf (headLabelled blocks edges B i j) i d) (passed-labels d (headLabelled blocks edges B i j) i))
       (λ ys r k.
       simp append-assoc
-      (flats-all blocks shown Passed passed-none passed-join (d + 1) i i (j - i) (λ n a b. passed-one (d + 1) n) i _
+      (flats-all blocks shown Passed passed-none passed-join (d + 1) i j i (j - i) (λ n a b. passed-one (d + 1) n) i _
       (passed-labels (d + 1) (labelWanted blocks j) j i _
       (test-all blocks shown Passed passed-none passed-join (d + 1) j (passed-one (d + 1) j) i (line while-line j (lastIn blocks j) d ∷ ys) ((c, p, q, refl), r i)))))
 
@@ -95,7 +95,7 @@ module _ (blocks edges shown : List ℕ) (B m : ℕ) where
   tree-kept over from i to d f le = kept [] passed-none
   tree-kept (plain r) from i to d f le =
       let lines = plainLines blocks edges shown B from i to d in
-      kept-join lines _ (kept lines (plain-all blocks shown Passed passed-none passed-join d i (passed-one d i) edges B from to))
+      kept-join lines _ (kept lines (block-all blocks shown Passed passed-none passed-join d i (passed-one d i) (labelled blocks edges B from i to) to))
       (tree-kept r from (i + 1) to d (f .1) le)
   tree-kept (region t a r) from i to d f le =
       let inner = treeLines blocks edges shown B a (i + 1) (i + 1) t (d + 1) in

@@ -1,15 +1,14 @@
 -- The numbers of a block's, a loop's and a region's lines, in the parts that are written one after the other.
 -- By the definitions; the numbers of two runs of lines are those of the first, then those of the second.
 use mathlib.Core.Path.{_≡_, refl}
-use mathlib.Core.Bool.{Bool, true, false, _&&_}
+use mathlib.Core.Bool.{Bool, true, false}
 use mathlib.Core.List.{List, [], _∷_, _++_, map-append, append-assoc}
 use Prim.Native.Nat.{ℕ, suc, _+_, _-_, _<_}
 use native.Mathlib.Numerals.{add-one}
 use native.Mathlib.Omega.{arith}
-use lib.Dec.{ltb}
 use Rattle.lists.specs.Choice.{pick}
 use Rattle.cfg.specs.Graph.{firstIn, countIn, lastIn, labelWanted, isShown}
-use Rattle.structure.specs.Plan.{Line, line, codeOf, labelIf, labelled, headLabelled, bodyLines, shownLines, branchLines, closingLines, plainLines, flatBlock, flatLines, testBlock, loopLines, regionLines}
+use Rattle.structure.specs.Plan.{Line, line, codeOf, labelIf, labelled, headLabelled, innerLabelled, bodyLines, shownLines, closingLines, blockLines, flatLines, testBlock, loopLines, regionLines}
 use Rattle.structure.specs.Plan.What.{do-line, open-line, while-line, close-line, insn-line}
 use Rattle.structure.specs.Codes.{codes, shownLine, headLines, doLines}
 use Rattle.structure.proofs.Storing.{Splits, Three}
@@ -40,10 +39,10 @@ unfolding shownLines
 shown-over shown k i d = refl
 
 module _ (blocks shown : List ℕ) where
-  pub flat-parts : (i k d : ℕ)
-      → Three (codes (flatBlock blocks shown i k d)) (codes (labelIf (ltb i k && labelWanted blocks k) k d)) (codes (bodyLines blocks shown k d)) (codes (branchLines blocks k d))
-  unfolding flatBlock
-  flat-parts i k d = record { is = codes-three (labelIf (ltb i k && labelWanted blocks k) k d) (bodyLines blocks shown k d) (branchLines blocks k d) }
+  pub block-parts : (b : Bool) (k to d : ℕ)
+      → Three (codes (blockLines blocks shown b k to d)) (codes (labelIf b k d)) (codes (bodyLines blocks shown k d)) (codes (closingLines blocks k to d))
+  unfolding blockLines
+  block-parts b k to d = record { is = codes-three (labelIf b k d) (bodyLines blocks shown k d) (closingLines blocks k to d) }
 
   pub test-parts : (j d : ℕ)
       → Three (codes (testBlock blocks shown j d)) (codes (labelIf (labelWanted blocks j) j (d + 1)))
@@ -51,27 +50,23 @@ module _ (blocks shown : List ℕ) where
   unfolding testBlock
   test-parts j d = record { is = codes-three (labelIf (labelWanted blocks j) j (d + 1)) (shownLines shown j (firstIn blocks j) (countIn blocks j - 1) (d + 1)) (line while-line j (lastIn blocks j) d ∷ []) }
 
-  pub do-parts : (i j d : ℕ) → Three (codes (doLines blocks shown i j d)) [] (codes (flatLines blocks shown i i (j - i) (d + 1))) (codes (testBlock blocks shown j d))
-  do-parts i j d = record { is = codes-join (flatLines blocks shown i i (j - i) (d + 1)) (testBlock blocks shown j d) }
+  pub do-parts : (i j d : ℕ) → Three (codes (doLines blocks shown i j d)) [] (codes (flatLines blocks shown i j i (j - i) (d + 1))) (codes (testBlock blocks shown j d))
+  do-parts i j d = record { is = codes-join (flatLines blocks shown i j i (j - i) (d + 1)) (testBlock blocks shown j d) }
 
   -- the blocks of a do-body from k up to its last
-  pub flats-turn : (i k j d : ℕ) → k < j
-      → Splits (codes (flatLines blocks shown i k (j - k) d)) (codes (flatBlock blocks shown i k d)) (codes (flatLines blocks shown i (k + 1) (j - (k + 1)) d))
+  pub flats-turn : (i j k d : ℕ) → k < j
+      → Splits (codes (flatLines blocks shown i j k (j - k) d)) (codes (blockLines blocks shown (innerLabelled blocks i k) k (j + 1) d))
+      (codes (flatLines blocks shown i j (k + 1) (j - (k + 1)) d))
   unfolding flatLines
-  flats-turn i k j d h =
+  flats-turn i j k d h =
       let s : j - k ≡ suc (j - suc k) = omega arith in
-      rw (s, add-one k) (record { is = codes-join (flatBlock blocks shown i k d) (flatLines blocks shown i (suc k) (j - suc k) d) })
+      rw (s, add-one k) (record { is = codes-join (blockLines blocks shown (innerLabelled blocks i k) k (j + 1) d) (flatLines blocks shown i j (suc k) (j - suc k) d) })
 
-  pub flats-over : (i k d : ℕ) → codes (flatLines blocks shown i k 0 d) ≡ []
+  pub flats-over : (i j k d : ℕ) → codes (flatLines blocks shown i j k 0 d) ≡ []
   unfolding flatLines
-  flats-over i k d = refl
+  flats-over i j k d = refl
 
 module _ (blocks edges shown : List ℕ) (B : ℕ) where
-  pub plain-parts : (from i to d : ℕ)
-      → Three (codes (plainLines blocks edges shown B from i to d)) (codes (labelIf (labelled blocks edges B from i to) i d)) (codes (bodyLines blocks shown i d)) (codes (closingLines blocks i to d))
-  unfolding plainLines
-  plain-parts from i to d = record { is = codes-three (labelIf (labelled blocks edges B from i to) i d) (bodyLines blocks shown i d) (closingLines blocks i to d) }
-
   pub head-parts : (from i to d : ℕ)
       → Three (codes (headLines blocks edges shown B from i to d)) (codes (labelIf (labelled blocks edges B from i to) i d)) (codes (bodyLines blocks shown i d)) (codes (line open-line i (lastIn blocks i) d ∷ []))
   head-parts from i to d = record { is = codes-three (labelIf (labelled blocks edges B from i to) i d) (bodyLines blocks shown i d) (line open-line i (lastIn blocks i) d ∷ []) }

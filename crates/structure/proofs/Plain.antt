@@ -1,15 +1,14 @@
 -- Lines that open and close no brace: what holds of no line, of each such line up to an indent, and of two runs if of both, holds of a
 -- block's lines. One walk serves every fact of that kind; each line is of its block's place, and of an instruction up to its block's end.
-use mathlib.Core.Bool.{Bool, _&&_, _||_}
+use mathlib.Core.Bool.{Bool, _||_}
 use mathlib.Core.List.{List, [], _∷_, _++_}
 use Prim.Native.Nat.{ℕ, zero, suc, _+_, _-_, _≤_, _<_, zero-le}
 use native.Mathlib.Nat.{le-refl}
 use native.Mathlib.Omega.{arith}
-use lib.Dec.{ltb}
 use Rattle.lists.specs.Choice.{pick}
-use Rattle.cfg.specs.Graph.{firstIn, countIn, endsInBranch, endsInJmp, branchTo, isBlock, lastIn, isShown, labelWanted}
+use Rattle.cfg.specs.Graph.{firstIn, countIn, endsInBranch, endsInJmp, branchTo, isBlock, lastIn, isShown}
 use Rattle.cfg.proofs.Within.{pick-both}
-use Rattle.structure.specs.Plan.{What, Line, line, labelIf, labelled, shownLines, bodyCount, bodyLines, goesNext, jumpLines, branchLines, closingLines, plainLines, flatBlock, flatLines}
+use Rattle.structure.specs.Plan.{What, Line, line, labelIf, innerLabelled, shownLines, bodyCount, bodyLines, goesNext, jumpLines, closingLines, blockLines, flatLines}
 use Rattle.structure.specs.Plan.What.{label-line, do-line, open-line, if-goto, while-line, close-line, goto-line, tail-call, insn-line}
 
 -- a line that opens and closes no brace
@@ -66,31 +65,20 @@ module _ (blocks shown : List ℕ) (P : List Line → Type 0) (none : P []) (joi
         (λ _. last-one (pick (isBlock (branchTo blocks k)) goto-line tail-call)
         (pick-both Braceless (isBlock (branchTo blocks k)) goto-line tail-call (λ _. tt) (λ _. tt)))
 
-    branch-all : P (branchLines blocks k d)
-    branch-all = pick-both P (endsInBranch blocks k) _ _ (λ _. last-one if-goto tt) (λ _. none)
-
     closing-all : (to : ℕ) → P (closingLines blocks k to d)
     unfolding closingLines
     closing-all to =
         pick-both P (endsInBranch blocks k) _ _ (λ _. last-one if-goto tt)
         (λ _. pick-both P (endsInJmp blocks k) _ _ (λ _. jump-all to) (λ _. none))
 
-    flat-all : (i : ℕ) → P (flatBlock blocks shown i k d)
-    unfolding flatBlock
-    flat-all i =
-        join (labelIf (ltb i k && labelWanted blocks k) k d) _ (labels-all (ltb i k && labelWanted blocks k))
-        (join (bodyLines blocks shown k d) _ body-all branch-all)
-
-    pub plain-all : (edges : List ℕ) (B from to : ℕ) → P (plainLines blocks edges shown B from k to d)
-    unfolding plainLines
-    plain-all edges B from to =
-        join (labelIf (labelled blocks edges B from k to) k d) _ (labels-all (labelled blocks edges B from k to))
-        (join (bodyLines blocks shown k d) _ body-all (closing-all to))
+    pub block-all : (b : Bool) (to : ℕ) → P (blockLines blocks shown b k to d)
+    unfolding blockLines
+    block-all b to = join (labelIf b k d) _ (labels-all b) (join (bodyLines blocks shown k d) _ body-all (closing-all to))
 
   -- n blocks of a do-body from k on
-  pub flats-all : (i k n : ℕ) → ((j : ℕ) → k ≤ j → j < k + n → One j) → P (flatLines blocks shown i k n d)
+  pub flats-all : (i j k n : ℕ) → ((m : ℕ) → k ≤ m → m < k + n → One m) → P (flatLines blocks shown i j k n d)
   unfolding flatLines
-  flats-all i k zero one = none
-  flats-all i k (suc n) one =
-      join (flatBlock blocks shown i k d) _ (flat-all k (one k (le-refl k) (omega arith)) i)
-      (flats-all i (suc k) n (λ j a b. one j (omega arith) (omega arith)))
+  flats-all i j k zero one = none
+  flats-all i j k (suc n) one =
+      join (blockLines blocks shown (innerLabelled blocks i k) k (j + 1) d) _ (block-all k (one k (le-refl k) (omega arith)) (innerLabelled blocks i k) (j + 1))
+      (flats-all i j (suc k) n (λ m a b. one m (omega arith) (omega arith)))

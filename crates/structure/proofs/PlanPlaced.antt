@@ -11,7 +11,7 @@ use Rattle.structure.specs.Tree.Tree.{over, plain, region, loop}
 use Rattle.structure.specs.Plan.{What, Line, line, labelIf, labelled, headLabelled, shownLines, bodyLines, plainLines, flatLines, testBlock, loopLines, regionLines, treeLines, rangeLines, planOf}
 use Rattle.structure.specs.Placed.{Placed}
 use Rattle.structure.proofs.Grown.{Fits, tree-fits}
-use Rattle.structure.proofs.Plain.{Braceless, endIn, labels-all, body-all, test-all, plain-all, flats-all}
+use Rattle.structure.proofs.Plain.{Braceless, endIn, labels-all, body-all, test-all, block-all, flats-all}
 
 module _ (blocks edges shown : List ℕ) (B m n : ℕ) (ends : (k : ℕ) → k < m → firstIn blocks k + countIn blocks k ≤ n) where
   join : (xs ys : List Line) → Placed m n xs → Placed m n ys → Placed m n (xs ++ ys)
@@ -34,8 +34,8 @@ module _ (blocks edges shown : List ℕ) (B m n : ℕ) (ends : (k : ℕ) → k <
       join (labelIf (headLabelled blocks edges B i j) i d) _ (labels-placed d (headLabelled blocks edges B i j) i first) (
         first,
         zero-le,
-        join (flatLines blocks shown i i (j - i) (d + 1)) _
-            (flats-all blocks shown (Placed m n) tt join (d + 1) i i (j - i) (λ k a b. one (d + 1) k (omega arith)))
+        join (flatLines blocks shown i j i (j - i) (d + 1)) _
+            (flats-all blocks shown (Placed m n) tt join (d + 1) i j i (j - i) (λ k a b. one (d + 1) k (omega arith)))
             (join (labelIf (labelWanted blocks j) j (d + 1)) _ (labels-placed (d + 1) (labelWanted blocks j) j q)
             (join (shownLines shown j (firstIn blocks j) (countIn blocks j - 1) (d + 1)) _
             (test-all blocks shown (Placed m n) tt join (d + 1) j (one (d + 1) j q)) (q, last-placed j q, tt))),
@@ -51,7 +51,7 @@ module _ (blocks edges shown : List ℕ) (B m n : ℕ) (ends : (k : ℕ) → k <
   unfolding treeLines
   tree-placed over from i to d f le = tt
   tree-placed (plain r) from i to d f le =
-      join (plainLines blocks edges shown B from i to d) _ (plain-all blocks shown (Placed m n) tt join d i (one d i (omega arith)) edges B from to)
+      join (plainLines blocks edges shown B from i to d) _ (block-all blocks shown (Placed m n) tt join d i (one d i (omega arith)) (labelled blocks edges B from i to) to)
       (tree-placed r from (i + 1) to d (f .1) le)
   tree-placed (region t a r) from i to d f le =
       let inner = treeLines blocks edges shown B a (i + 1) (i + 1) t (d + 1) in

@@ -1,4 +1,4 @@
--- The instructions of a block's lines are those that are not silent there: of a plain block, of one in a do-body, of its last.
+-- The instructions of a block's lines are those that are not silent there: of a block in a range, of the last in a do-body.
 -- A block's lines are its shown instructions and at most one line for the last; so is the silent list.
 use mathlib.Core.Path.{_≡_, refl, sym, ap, _∙_}
 use mathlib.Core.Bool.{Bool, true, false, not}
@@ -12,10 +12,10 @@ use borrow.Author.Tests.{eqb-true, eq-eqb, ne-eqb}
 use Rattle.lists.specs.Choice.{pick}
 use Rattle.cfg.specs.Graph.{firstIn, countIn, endingIn, endsInBranch, endsInJmp, branchTo, isBlock, lastIn, isShown}
 use Rattle.cfg.proofs.Within.{ends-some}
-use Rattle.structure.specs.Plan.{What, Line, line, shownLines, bodyCount, bodyLines, goesNext, jumpLines, branchLines, closingLines}
+use Rattle.structure.specs.Plan.{What, Line, line, shownLines, bodyCount, bodyLines, goesNext, jumpLines, closingLines}
 use Rattle.structure.specs.Plan.What.{label-line, do-line, open-line, if-goto, while-line, close-line, goto-line, tail-call, insn-line}
 use Rattle.structure.specs.Demand.{Context, lastSilent, silent, unsilenced, unsilencedIn, count, counted}
-use Rattle.structure.specs.Demand.Context.{in-range, in-body, last-in-body}
+use Rattle.structure.specs.Demand.Context.{in-range, last-in-body}
 
 -- ---- the instructions of two runs of lines
 
@@ -127,10 +127,10 @@ module _ (blocks shown : List ℕ) where
   jump-counted k d false true = refl
   jump-counted k d false false = refl
 
-  pub plain-counted : (k to d : ℕ)
+  pub block-counted : (k to d : ℕ)
       → counted (bodyLines blocks shown k d ++ closingLines blocks k to d) ≡ left (in-range to) k (firstIn blocks k) (countIn blocks k)
   unfolding closingLines bodyCount counted
-  plain-counted k to d = by (endsInBranch blocks k) (endsInJmp blocks k) refl refl
+  block-counted k to d = by (endsInBranch blocks k) (endsInJmp blocks k) refl refl
     where
       by : (b₂ b₃ : Bool) → endsInBranch blocks k ≡ b₂ → endsInJmp blocks k ≡ b₃
           → counted (bodyLines blocks shown k d ++ closingLines blocks k to d) ≡ left (in-range to) k (firstIn blocks k) (countIn blocks k)
@@ -139,17 +139,6 @@ module _ (blocks shown : List ℕ) where
           let skips = goesNext blocks k to in
           rw (p, q) (closing-counted (in-range to) k d (jumpLines blocks k to d) skips (ends-some blocks k 2 q) (rw (p, q)) (jump-counted k d skips (isBlock (branchTo blocks k))))
       by false false p q = rw (p, q) (other-counted (in-range to) k d (rw (p, q)))
-
-  pub flat-counted : (k d : ℕ)
-      → counted (bodyLines blocks shown k d ++ branchLines blocks k d) ≡ left in-body k (firstIn blocks k) (countIn blocks k)
-  unfolding bodyCount counted
-  flat-counted k d = by (endsInBranch blocks k) (endsInJmp blocks k) refl refl
-    where
-      by : (b₂ b₃ : Bool) → endsInBranch blocks k ≡ b₂ → endsInJmp blocks k ≡ b₃
-          → counted (bodyLines blocks shown k d ++ branchLines blocks k d) ≡ left in-body k (firstIn blocks k) (countIn blocks k)
-      by true b₃ p q = rw p (closing-counted in-body k d (line if-goto k (lastIn blocks k) d ∷ []) false (ends-some blocks k 1 p) (rw p) refl)
-      by false true p q = rw (p, q) (closing-counted in-body k d [] true (ends-some blocks k 2 q) (rw (p, q)) refl)
-      by false false p q = rw (p, q) (other-counted in-body k d (rw (p, q)))
 
   -- the block of an if-region
   pub head-counted : (k to d : ℕ) → endingIn blocks k ≡ 2

@@ -23,4 +23,4 @@ headLines blocks edges shown B from i to d =
 
 -- the body of a do-loop, with its while-line
 abbrev pub doLines : List ℕ → List ℕ → ℕ → ℕ → ℕ → List Line
-doLines blocks shown i j d = flatLines blocks shown i i (j - i) (d + 1) ++ testBlock blocks shown j d
+doLines blocks shown i j d = flatLines blocks shown i j i (j - i) (d + 1) ++ testBlock blocks shown j d

@@ -12,10 +12,10 @@ use Rattle.structure.specs.Tree.Tree.{over, plain, region, loop}
 use Rattle.structure.specs.Plan.{What, Line, is, goesNext, planOf}
 use Rattle.structure.specs.Plan.What.{label-line, do-line, open-line, if-goto, while-line, close-line, goto-line, tail-call, insn-line}
 
--- Where the regions put a block: in a range being written that ends at a place, in a do-body, or last in a do-body.
+-- Where the regions put a block: in a range being written that ends at a place, or last in a do-body. To the other blocks of a do-body
+-- the loop is that range.
 pub data Context : Type 0 where
   in-range : ℕ → Context
-  in-body : Context
   last-in-body : Context
 
 -- the contexts of the places from i up to `to`, in order: a fold over the range's tree
@@ -23,15 +23,14 @@ unfoldable pub contexts : Tree → ℕ → ℕ → List Context
 contexts over i to = []
 contexts (plain r) i to = in-range to ∷ contexts r (i + 1) to
 contexts (region t a r) i to = in-range to ∷ (contexts a (i + 1) t ++ contexts r t to)
-contexts (loop j r) i to = replicate (j - i) in-body ++ (last-in-body ∷ contexts r (j + 1) to)
+contexts (loop j r) i to = replicate (j - i) (in-range (j + 1)) ++ (last-in-body ∷ contexts r (j + 1) to)
 
 module _ (blocks shown : List ℕ) where
   -- the last instruction of block k, in a context: "A block's closing conditional branch, a loop's closing test and a last direct jmp
-  -- outside do-bodies aren't silenced by the skip mark"; such a jmp is silent if it "goes to the next block when that lies in the range
-  -- being written", and one in a do-body always is
+  -- .. aren't silenced by the skip mark"; such a jmp is silent if it "goes to the next block when that lies in the range being written".
+  -- #101: in a do-body too, "The silent list loses that entry, and the skip mark, for those jumps."
   abbrev pub lastSilent : Context → ℕ → Bool
   lastSilent last-in-body k = false
-  lastSilent in-body k = pick (endsInBranch blocks k) false (pick (endsInJmp blocks k) true (not (isShown shown (lastIn blocks k))))
   lastSilent (in-range end) k =
       pick (endsInBranch blocks k) false (pick (endsInJmp blocks k) (goesNext blocks k end) (not (isShown shown (lastIn blocks k))))
 

@@ -68,15 +68,16 @@ module _ (blocks : List ℕ) where
   abbrev pub goesNext : ℕ → ℕ → Bool
   goesNext i to = eqb (branchTo blocks i) (i + 1) && ltb (i + 1) to
 
+  -- a label in the body of the loop whose head is i: the "other blocks of the body whenever wanted"
+  abbrev pub innerLabelled : ℕ → ℕ → Bool
+  innerLabelled i k = ltb i k && labelWanted blocks k
+
   -- a last direct jmp: none if it goes to the next block so, else a goto to a block or a tail call
   abbrev pub jumpLines : ℕ → ℕ → ℕ → List Line
   jumpLines i to d =
       pick (goesNext i to) [] (line (pick (isBlock (branchTo blocks i)) goto-line tail-call) i (lastIn blocks i) d ∷ [])
 
-  -- a closing conditional branch
-  abbrev pub branchLines : ℕ → ℕ → List Line
-  branchLines k d = pick (endsInBranch blocks k) (line if-goto k (lastIn blocks k) d ∷ []) []
-
+  -- a closing conditional branch or last direct jmp
   unfoldable pub closingLines : ℕ → ℕ → ℕ → List Line
   closingLines i to d =
       pick (endsInBranch blocks i) (line if-goto i (lastIn blocks i) d ∷ []) (pick (endsInJmp blocks i) (jumpLines i to d) [])
@@ -85,16 +86,15 @@ module _ (blocks shown : List ℕ) where
   abbrev pub bodyLines : ℕ → ℕ → List Line
   bodyLines k d = shownLines shown k (firstIn blocks k) (bodyCount blocks k) d
 
-  -- a block of a do-body other than its last, with its label "whenever wanted" but for the head i; its direct jmp is silent
-  unfoldable pub flatBlock : ℕ → ℕ → ℕ → List Line
-  flatBlock i k d =
-      labelIf (ltb i k && labelWanted blocks k) k d
-      ++ (bodyLines k d ++ branchLines blocks k d)
+  -- a block of a range that ends at `to`: its label, if it has one, its instructions, its closing branch or jmp
+  unfoldable pub blockLines : Bool → ℕ → ℕ → ℕ → List Line
+  blockLines wanted k to d = labelIf wanted k d ++ (bodyLines k d ++ closingLines blocks k to d)
 
-  -- n such blocks from k on, of the loop whose head is i
-  unfoldable pub flatLines : ℕ → ℕ → ℕ → ℕ → List Line
-  flatLines i k zero d = []
-  flatLines i k (suc n) d = flatBlock i k d ++ flatLines i (suc k) n d
+  -- n blocks from k on of the body of the loop from i to j, before its last: "Its body is flat." To each the loop is the range being
+  -- written, so that its direct jmp gets "the same goto or return line as elsewhere" (#101)
+  unfoldable pub flatLines : ℕ → ℕ → ℕ → ℕ → ℕ → List Line
+  flatLines i j k zero d = []
+  flatLines i j k (suc n) d = blockLines (innerLabelled blocks i k) k (j + 1) d ++ flatLines i j (suc k) n d
 
   -- the last block of a do-body, whose last instruction is the loop's closing test
   unfoldable pub testBlock : ℕ → ℕ → List Line
@@ -113,15 +113,14 @@ module _ (blocks edges : List ℕ) (B : ℕ) where
   headLabelled i j = labelWanted blocks i && outsideJump blocks edges B i (j + 1) i
 
 module _ (blocks edges shown : List ℕ) (B : ℕ) where
-  unfoldable pub plainLines : ℕ → ℕ → ℕ → ℕ → List Line
-  plainLines from i to d =
-      labelIf (labelled blocks edges B from i to) i d ++ (bodyLines blocks shown i d ++ closingLines blocks i to d)
+  abbrev pub plainLines : ℕ → ℕ → ℕ → ℕ → List Line
+  plainLines from i to d = blockLines blocks shown (labelled blocks edges B from i to) i to d
 
-  -- a do-loop from i to j: its body is flat
+  -- a do-loop from i to j
   unfoldable pub loopLines : ℕ → ℕ → ℕ → List Line
   loopLines i j d =
       labelIf (headLabelled blocks edges B i j) i d
-      ++ (line do-line i 0 d ∷ (flatLines blocks shown i i (j - i) (d + 1) ++ testBlock blocks shown j d))
+      ++ (line do-line i 0 d ∷ (flatLines blocks shown i j i (j - i) (d + 1) ++ testBlock blocks shown j d))
 
   -- an if-region: its block's lines, the opening line for the branch, the lines inside, a lone closing brace
   abbrev pub regionLines : List Line → ℕ → ℕ → ℕ → ℕ → List Line

@@ -1,4 +1,4 @@
-// The lines of one block: a plain one, the head of an if-region, and those of a do-body.
+// The lines of one block: of any in a range, of a plain one, and of the head of an if-region.
 use crate::lines::label;
 use crate::lines::one_less;
 use crate::lines::put_line;
@@ -16,7 +16,7 @@ use record::blocks::same_place;
 ghost use mathlib.Core.Path.{_≡_};
 ghost use Prim.Native.Nat.{_+_, _-_, _<_};
 ghost use Rattle.cfg.specs.Sources.{Sources};
-ghost use Rattle.structure.specs.Plan.{bodyCount, bodyLines, goesNext, jumpLines, closingLines, plainLines, labelled};
+ghost use Rattle.structure.specs.Plan.{bodyCount, bodyLines, goesNext, jumpLines, closingLines, blockLines, plainLines, labelled};
 ghost use Rattle.structure.specs.Codes.{codes, headLines};
 ghost use Rattle.structure.specs.Stored.{Stored, Room};
 
@@ -55,7 +55,7 @@ fn body_count(blocks: &[u16], k: Place) -> u32
     n
 }
 
-pub fn body_lines(
+fn body_lines(
     blocks: &[u16],
     shown: &[u8],
     k: Place,
@@ -116,6 +116,25 @@ fn closing_line(
     at
 }
 
+// The block at place k of a range that ends at `to`: its label, if wanted, its instructions, its closing branch or jmp.
+pub fn emit_block(
+    blocks: &[u16],
+    shown: &[u8],
+    wanted: bool,
+    k: Place,
+    to: Place,
+    indent: u32,
+    out: &mut [u64],
+    at: usize,
+) -> usize
+    requires { ⌜ (indent < 131072) × Room at (codes (blockLines (now blocks) (now shown) wanted (k .0) (to .0) indent)) ⌝ }
+    ensures { λ r. ⌜ Stored (now (out .entry)) at (codes (blockLines (now (blocks .entry)) (now (shown .entry)) wanted (k .0) (to .0) indent)) r (now (out .exit)) ⌝ }
+{
+    let n = label(out, at, wanted, k, indent);
+    let m = body_lines(blocks, shown, k, indent, out, n);
+    closing_line(blocks, k, to, indent, out, m)
+}
+
 // A plain block at place i of the range from `from` up to `to`.
 pub fn emit_plain(
     blocks: &[u16],
@@ -135,9 +154,7 @@ pub fn emit_plain(
     ensures { λ r. ⌜ Stored (now (out .entry)) at (codes (plainLines (now (blocks .entry)) (now (edges .entry)) (now (shown .entry)) count (from .0) (i .0) (to .0) indent)) r (now (out .exit)) ⌝ }
 {
     let wanted = is_labelled(blocks, edges, firsts, lasts, count, from, i, to);
-    let n = label(out, at, wanted, i, indent);
-    let m = body_lines(blocks, shown, i, indent, out, n);
-    closing_line(blocks, i, to, indent, out, m)
+    emit_block(blocks, shown, wanted, i, to, indent, out, at)
 }
 
 // The block of an if-region, with its opening line.

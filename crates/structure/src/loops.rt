@@ -1,11 +1,10 @@
 // The lines of a do-loop: its label, its do-line, its body, which is flat, and its while-line.
-use crate::blocks::body_lines;
+use crate::blocks::emit_block;
 use crate::lines::label;
 use crate::lines::one_less;
 use crate::lines::put_line;
 use crate::lines::shown_lines;
 use cfg::graph::count_in;
-use cfg::graph::ending_in;
 use cfg::graph::first_in;
 use cfg::graph::label_wanted;
 use cfg::graph::last_in;
@@ -15,41 +14,18 @@ use record::blocks::is_before;
 ghost use mathlib.Core.Path.{_≡_};
 ghost use Prim.Native.Nat.{_+_, _-_, _<_};
 ghost use Rattle.cfg.specs.Sources.{Sources};
-ghost use Rattle.structure.specs.Plan.{flatBlock, flatLines, testBlock, loopLines, headLabelled, branchLines};
+ghost use Rattle.structure.specs.Plan.{innerLabelled, flatLines, testBlock, loopLines, headLabelled};
 ghost use Rattle.structure.specs.Codes.{codes, doLines};
 ghost use Rattle.structure.specs.Stored.{Stored, Room};
 
-// The line of a closing conditional branch, if the block ends with one.
-fn branch_line(blocks: &[u16], k: Place, indent: u32, out: &mut [u64], at: usize) -> usize
-    requires { ⌜ (indent < 131072) × Room at (codes (branchLines (now blocks) (k .0) indent)) ⌝ }
-    ensures { λ r. ⌜ Stored (now (out .entry)) at (codes (branchLines (now (blocks .entry)) (k .0) indent)) r (now (out .exit)) ⌝ }
+// Whether block k of a do-body has a label there; i is the loop's head.
+fn inner_labelled(blocks: &[u16], i: Place, k: Place) -> bool
+    ensures { λ r. ⌜ r ≡ innerLabelled (now (blocks .entry)) (i .0) (k .0) ⌝ }
 {
-    if ending_in(blocks, k) == 2 {
-        return put_line(out, at, 3, k, last_in(blocks, k), indent);
-    }
-    at
+    is_before(i, k) & label_wanted(blocks, k)
 }
 
-// A block of a do-body other than its last; i is the loop's head.
-fn flat_block(
-    blocks: &[u16],
-    shown: &[u8],
-    i: Place,
-    k: Place,
-    indent: u32,
-    out: &mut [u64],
-    at: usize,
-) -> usize
-    requires { ⌜ (indent < 131072) × Room at (codes (flatBlock (now blocks) (now shown) (i .0) (k .0) indent)) ⌝ }
-    ensures { λ r. ⌜ Stored (now (out .entry)) at (codes (flatBlock (now (blocks .entry)) (now (shown .entry)) (i .0) (k .0) indent)) r (now (out .exit)) ⌝ }
-{
-    let wanted = is_before(i, k) & label_wanted(blocks, k);
-    let n = label(out, at, wanted, k, indent);
-    let m = body_lines(blocks, shown, k, indent, out, n);
-    branch_line(blocks, k, indent, out, m)
-}
-
-// The blocks of a do-body from its head up to its last, the last not counted.
+// The blocks of a do-body from its head up to its last, the last not counted: to each the loop is the range being written.
 fn flat_lines(
     blocks: &[u16],
     shown: &[u8],
@@ -59,14 +35,24 @@ fn flat_lines(
     out: &mut [u64],
     at: usize,
 ) -> usize
-    requires { ⌜ (indent < 131072) × Room at (codes (flatLines (now blocks) (now shown) (i .0) (i .0) (j .0 - i .0) indent)) ⌝ }
-    ensures { λ r. ⌜ Stored (now (out .entry)) at (codes (flatLines (now (blocks .entry)) (now (shown .entry)) (i .0) (i .0) (j .0 - i .0) indent)) r (now (out .exit)) ⌝ }
+    requires { ⌜ (j .0 < 65535) × (indent < 131072) × Room at (codes (flatLines (now blocks) (now shown) (i .0) (j .0) (i .0) (j .0 - i .0) indent)) ⌝ }
+    ensures { λ r. ⌜ Stored (now (out .entry)) at (codes (flatLines (now (blocks .entry)) (now (shown .entry)) (i .0) (j .0) (i .0) (j .0 - i .0) indent)) r (now (out .exit)) ⌝ }
 {
     let last = j.0;
     let mut k = i.0;
     let mut next = at;
     while k < last {
-        next = flat_block(blocks, shown, i, Place(k), indent, out, next);
+        let wanted = inner_labelled(blocks, i, Place(k));
+        next = emit_block(
+            blocks,
+            shown,
+            wanted,
+            Place(k),
+            Place(last + 1),
+            indent,
+            out,
+            next,
+        );
         k += 1;
     }
     next
@@ -102,7 +88,7 @@ fn emit_do(
     out: &mut [u64],
     at: usize,
 ) -> usize
-    requires { ⌜ (indent + 1 < 131072) × Room at (codes (doLines (now blocks) (now shown) (i .0) (j .0) indent)) ⌝ }
+    requires { ⌜ (j .0 < 65535) × (indent + 1 < 131072) × Room at (codes (doLines (now blocks) (now shown) (i .0) (j .0) indent)) ⌝ }
     ensures { λ r. ⌜ Stored (now (out .entry)) at (codes (doLines (now (blocks .entry)) (now (shown .entry)) (i .0) (j .0) indent)) r (now (out .exit)) ⌝ }
 {
     let n = flat_lines(blocks, shown, i, j, indent + 1, out, at);

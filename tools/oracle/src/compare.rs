@@ -391,6 +391,8 @@ struct Seen {
     lines: usize,
     amended: usize,
     amended_16: usize,
+    /// Of the lines that #101 adds the gotos and the tail calls.
+    added: [usize; 2],
     longest: usize,
     most_lines: usize,
     most_tokens: usize,
@@ -406,6 +408,9 @@ impl Seen {
         self.lines += listing.lines();
         self.amended += listing.amended;
         self.amended_16 += listing.amended_16;
+        for line in &listing.added {
+            self.added[usize::from(listing.line(*line).starts_with(b"return"))] += 1;
+        }
         self.most_lines = self.most_lines.max(listing.lines());
         self.longest = self.longest.max(listing.text.len());
         self.most_tokens = self.most_tokens.max(listing.token_ends.len());
@@ -422,6 +427,8 @@ impl Seen {
 
     fn print(&self) {
         print_amended("lines", self.amended, self.amended_16, self.lines);
+        let [gotos, calls] = self.added;
+        println!("  of the others {} are lines added by #101: {gotos} gotos, {calls} tail calls", gotos + calls);
         println!("  lines {}, labels {}, do-loops {}, if-regions {}", self.lines, self.labels, self.dos, self.ifs);
         println!(
             "  at most: {} lines, {} tokens, {} text bytes in a listing, indent {}",

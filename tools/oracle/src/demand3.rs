@@ -1,4 +1,4 @@
-//! Demand 3 on a listing, from document 01's words: no more lines than I + 2B, exactly the lines of
+//! Demand 3 on a listing, from document 01's words as amended by document 02: no more lines than I + 2B, exactly the lines of
 //! the instructions that are not silent and in their order, braces that match, and indents that
 //! follow the braces.
 
@@ -113,24 +113,25 @@ fn right_instructions(range: &Range, listing: &Listing, regions: &Regions) -> Re
     }
 }
 
+/// #101: "The silent list loses that entry, and the skip mark, for those jumps": a last direct jmp in a do-body is as any other.
 fn is_silent(range: &Range, regions: &Regions, place: usize, n: usize) -> bool {
     let insn = range.insn(n);
     let last = n + 1 == range.first[place + 1];
-    let in_loop = regions.loops.iter().find(|(a, b)| (*a..*b).contains(&place));
     let near = insn.operands[0].kind == kind::NEAR;
-    if last && insn.condition != 0 && (near || in_loop.is_some_and(|l| l.1 == place + 1)) {
+    let closes_loop = regions.loops.iter().any(|l| l.1 == place + 1);
+    if last && insn.condition != 0 && (near || closes_loop) {
         return false;
     }
     if insn.mnemonic == m::JMP && near {
-        return !last || in_loop.is_some() || goes_on(range, regions, place, insn);
+        return !last || goes_on(range, regions, place, insn);
     }
     insn.skip == 1 || is_noise(insn, range.record) || matches!(insn.mnemonic, m::CMP | m::TEST | m::PUSH | 32..=35)
 }
 
-/// A jump to the next block when that lies in the range being written.
+/// A jump to the next block when that lies in the range being written: the smallest region or do-loop around the block.
 fn goes_on(range: &Range, regions: &Regions, place: usize, jump: &Insn) -> bool {
-    let ends = regions.ifs.iter().filter(|(a, b)| (*a..*b).contains(&place)).map(|l| l.1);
-    let end = ends.min().unwrap_or(range.to);
+    let around = regions.ifs.iter().chain(&regions.loops).filter(|(a, b)| (*a..*b).contains(&place));
+    let end = around.map(|l| l.1).min().unwrap_or(range.to);
     place + 1 < end && range.record.blocks[place + 1].start == jump.operands[0].number
 }
 

@@ -1,4 +1,5 @@
-//! What document 02's requests leave out of the comparison with the unchanged Rust, from their words: there the amended one is asked.
+//! What document 02's requests leave out of the comparison with the unchanged Rust, or add to its lines, from their words: there the
+//! amended one is asked.
 
 use crate::record::{kind, mnemonic as m, Insn, Operand, Record};
 
@@ -44,4 +45,18 @@ pub fn lines(record: &Record) -> Vec<bool> {
     };
     let of = |insns: &[Insn]| (0..insns.len()).map(|n| departs(&insns[..n], &insns[n])).collect::<Vec<bool>>();
     record.blocks.iter().flat_map(|b| of(&b.insns)).collect()
+}
+
+/// #101: for each instruction of the record whether it has a line that the unchanged Rust does not write: "a block inside a do-body, other than
+/// its last, that ends with a direct jump gets the same goto or return line as elsewhere, unless the target is the next block". `loops` are the
+/// first and last places of the do-loops.
+pub fn added(record: &Record, loops: &[(usize, usize)]) -> Vec<bool> {
+    let mut out = Vec::new();
+    for (place, block) in record.blocks.iter().enumerate() {
+        let is_inside = loops.iter().any(|(first, last)| (*first..*last).contains(&place));
+        let gets_line = is_inside && block.jump_target().is_some_and(|to| to != record.blocks[place + 1].start);
+        let count = block.insns.len();
+        out.extend((1..=count).map(|n| n == count && gets_line));
+    }
+    out
 }

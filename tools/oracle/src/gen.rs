@@ -8,7 +8,7 @@ mod real;
 use crate::record::{edge, kind, mnemonic as m, name, register as r, Block, Edge, Entry, Insn, Operand, Record};
 use crate::rng::Rng;
 
-use flow::{agree, block_starts, blocks, branch, set_addresses, want_labels};
+use flow::{agree, block_starts, blocks, branch, jump_in_loops, set_addresses, want_labels};
 use insns::{any_insn, any_register, indirect, one};
 
 pub const LIMIT_B: usize = 200;
@@ -66,17 +66,20 @@ pub fn valid(rng: &mut Rng) -> Record {
     }
 }
 
-/// Now and then with bits 16.
+/// Now and then with bits 16, and with more jumps inside loops.
 fn sized(rng: &mut Rng, size: Size) -> Record {
     let bits = match rng.below(100) {
         0..=64 => 64,
         65..=84 => 32,
         _ => 16,
     };
-    of_bits(rng, bits, size)
+    let mut record = of_bits(rng, bits, size);
+    let world = world(&record, record.blocks.iter().map(|b| b.start).collect());
+    jump_in_loops(&mut rng.aside(), &world, &mut record);
+    record
 }
 
-/// Without bits 16, which the Rust does not have: for the benchmark, where the port and the Rust list the same.
+/// Without bits 16, which the Rust does not have: for the benchmark, where the port and the Rust list the same but for a few lines.
 fn wide(rng: &mut Rng, size: Size) -> Record {
     let bits = if rng.percent(65) { 64 } else { 32 };
     of_bits(rng, bits, size)

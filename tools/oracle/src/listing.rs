@@ -30,6 +30,8 @@ pub struct Listing {
     pub amended: usize,
     /// How many of these are of a record with bits 16.
     pub amended_16: usize,
+    /// The lines, by number, that #101 adds to the unchanged Rust's. With bits 16 that one is not asked, and none counts as added.
+    pub added: Vec<usize>,
 }
 
 /// What a line was written for: a block by its place, an instruction by its number.
@@ -43,8 +45,8 @@ pub enum Origin {
     Instruction(usize),
 }
 
-/// What the port lists of an accepted record's range: the Rust's lines, where a request of document 02 departs the amended one's; or the
-/// message of a panic.
+/// What the port lists of an accepted record's range: the Rust's lines, where a request of document 02 departs or adds a line the amended
+/// one's; or the message of a panic.
 pub fn list(bytes: &[u8], from: usize, to: usize) -> Result<Listing, String> {
     list_record(&Record::parse(bytes), from, to)
 }
@@ -94,8 +96,19 @@ pub fn amended_alone(record: &Record, from: usize, to: usize) -> Result<Listing,
     lines_of(record, || plain(amended::run(record, from, to)))
 }
 
-/// The Rust's lines, with the amended one's in the place of those that depart; all of them where a whole record does, since other
-/// instructions are silent there.
+/// The merged listing if the amended Rust's lines were changed so, to see which changes are refused.
+#[cfg(test)]
+pub fn list_changed(record: &Record, change: impl Fn(&mut Vec<PseudoLine>)) -> Result<Listing, String> {
+    let to = record.blocks.len();
+    lines_of(record, || {
+        let (mut amended, tag) = plain(amended::run(record, 0, to));
+        change(&mut amended);
+        with_amended(record, || emitter::run(record, 0, to), (amended, tag))
+    })
+}
+
+/// The Rust's lines in their order, with the amended one's in the place of those that depart, and between them those that #101 adds; all of
+/// the amended one's where a whole record departs, since other instructions are silent there.
 fn with_amended(
     record: &Record,
     rust: impl Fn() -> (Vec<PseudoLine>, u64),
@@ -105,11 +118,32 @@ fn with_amended(
         return amended;
     }
     let (rust, tag) = rust();
+    let origins: Vec<Origin> = rust.iter().map(|l| origin(record, l, tag)).collect();
+    let added = departures::added(record, &loops(record, &origins));
     let departs = departures::lines(record);
-    let taken = |l: &PseudoLine| l.address.is_some_and(|a| a >> 48 == tag >> 48 && departs[(a - tag) as usize]);
-    assert_eq!(rust.len(), amended.0.len(), "an amendment changes the number of lines");
-    let lines = rust.into_iter().zip(amended.0).map(|(rust, amended)| if taken(&rust) { amended } else { rust });
-    (lines.collect(), tag)
+    let is_one_of = |marked: &[bool], line: &PseudoLine| number(line, tag).is_some_and(|n| marked[n]);
+    let (new, old): (Vec<&PseudoLine>, Vec<&PseudoLine>) = amended.0.iter().partition(|l| is_one_of(&added, l));
+    assert!(
+        new.iter().filter_map(|l| number(l, tag)).eq((0..added.len()).filter(|n| added[*n])),
+        "the amended Rust does not add one line for each jump that #101 names"
+    );
+    assert!(
+        old.iter().map(|l| (l.address, l.indent)).eq(rust.iter().map(|l| (l.address, l.indent))),
+        "the amended Rust has other lines than the unchanged one beside those that #101 adds"
+    );
+    let mut rust = rust.into_iter();
+    let merged = amended.0.into_iter().map(|amended| match is_one_of(&added, &amended) {
+        true => amended,
+        false => rust.next().filter(|l| !is_one_of(&departs, l)).unwrap_or(amended),
+    });
+    (merged.collect(), tag)
+}
+
+/// The do-loops of a listing, first and last place each. A do-body is flat, so the while-lines close the do-lines in turn.
+fn loops(record: &Record, origins: &[Origin]) -> Vec<(usize, usize)> {
+    let firsts = origins.iter().filter_map(|o| if let Origin::Do(place) = o { Some(*place) } else { None });
+    let lasts = origins.iter().filter_map(|o| if let Origin::While(n) = o { Some(record.place_of(*n)) } else { None });
+    firsts.zip(lasts).collect()
 }
 
 /// The lists of the lines that the emitter, or a mutant of it, writes.
@@ -147,45 +181,56 @@ fn message(e: Box<dyn std::any::Any + Send>) -> String {
 
 fn lists(record: &Record, lines: &[PseudoLine], tag: u64) -> Listing {
     let addresses: Vec<u64> = record.insns().map(|i| i.address).collect();
-    let departs = departures::lines(record);
-    let mut out = Listing::default();
-    for line in lines {
+    let mut out = Listing { origins: lines.iter().map(|l| origin(record, l, tag)).collect(), ..Listing::default() };
+    for (line, origin) in lines.iter().zip(&out.origins) {
         for token in &line.tokens {
             out.text.extend(token.t.as_bytes());
             out.token_ends.push(out.text.len() as u32);
             out.token_kinds.push(token.k as u8);
         }
-        let origin = origin(record, line, tag);
-        out.line_addresses.push(match origin {
+        out.line_addresses.push(match *origin {
             Origin::Label(place) | Origin::Do(place) => record.blocks[place].start,
             Origin::Open(n) | Origin::While(n) | Origin::Instruction(n) => addresses[n],
             Origin::Close => 0,
         });
-        if let Origin::Open(n) | Origin::While(n) | Origin::Instruction(n) = origin {
-            out.amended += usize::from(departs[n]);
-        }
         out.line_marks.push(line.indent as u16 + if line.address.is_some() { 256 } else { 0 });
         out.line_ends.push(out.token_ends.len() as u32);
-        out.origins.push(origin);
     }
-    if departures::whole(record) {
-        out.amended = out.lines();
-        out.amended_16 = out.lines();
-    }
+    count_amended(record, lines, tag, &mut out);
     out
 }
 
-/// Only a lone closing brace has no address, and only lines of instructions have a tagged one. Names
-/// may have any text, so kinds are asked too.
+/// Which of the lines are the amended Rust's.
+fn count_amended(record: &Record, lines: &[PseudoLine], tag: u64, out: &mut Listing) {
+    if departures::whole(record) {
+        out.amended = out.lines();
+        out.amended_16 = out.lines();
+        return;
+    }
+    let departs = departures::lines(record);
+    let added = departures::added(record, &loops(record, &out.origins));
+    for (line, n) in lines.iter().enumerate().filter_map(|(line, l)| Some((line, number(l, tag)?))) {
+        out.amended += usize::from(departs[n] || added[n]);
+        if added[n] {
+            out.added.push(line);
+        }
+    }
+}
+
+/// The number of the instruction that a line was written for. Only such lines have a tagged address.
+fn number(line: &PseudoLine, tag: u64) -> Option<usize> {
+    line.address.filter(|a| a >> 48 == tag >> 48).map(|a| (a - tag) as usize)
+}
+
+/// Only a lone closing brace has no address. Names may have any text, so kinds are asked too.
 fn origin(record: &Record, line: &PseudoLine, tag: u64) -> Origin {
     let Some(address) = line.address else { return Origin::Close };
     let first = &line.tokens[0];
     let last = &line.tokens[line.tokens.len() - 1];
-    if address >> 48 != tag >> 48 {
+    let Some(n) = number(line, tag) else {
         let place = record.blocks.iter().position(|b| b.start == address).expect("a block's line");
         return if first.k == TokenKind::Keyword { Origin::Do(place) } else { Origin::Label(place) };
-    }
-    let n = (address - tag) as usize;
+    };
     match (first.k, first.t.as_str()) {
         (TokenKind::Punct, "} ") => Origin::While(n),
         (TokenKind::Keyword, "if") if last.t.ends_with('{') => Origin::Open(n),

@@ -83,6 +83,8 @@ pub mod register {
     pub const RCX: u8 = 81;
     pub const RSP: u8 = 84;
     pub const RBP: u8 = 85;
+    pub const RSI: u8 = 86;
+    pub const RDI: u8 = 87;
     pub const EIP: u8 = 96;
     pub const RIP: u8 = 97;
     pub const ES: u8 = 112;
@@ -233,6 +235,12 @@ impl Block {
         let last = self.insns.last()?;
         (last.condition != 0 && last.operands[0].kind == kind::NEAR).then_some(last.operands[0].number)
     }
+
+    /// Where the last instruction jumps to, if it is a direct jmp.
+    pub fn jump_target(&self) -> Option<u64> {
+        let last = self.insns.last()?;
+        (last.mnemonic == mnemonic::JMP && last.operands[0].kind == kind::NEAR).then_some(last.operands[0].number)
+    }
 }
 
 impl Record {
@@ -245,6 +253,15 @@ impl Record {
 
     pub fn insns(&self) -> impl Iterator<Item = &Insn> {
         self.blocks.iter().flat_map(|b| b.insns.iter())
+    }
+
+    /// The place of the block that has instruction `n`.
+    pub fn place_of(&self, n: usize) -> usize {
+        let ends = self.blocks.iter().scan(0, |end, b| {
+            *end += b.insns.len();
+            Some(*end)
+        });
+        ends.take_while(|end| *end <= n).count()
     }
 
     fn edges(&self) -> impl Iterator<Item = &Edge> {

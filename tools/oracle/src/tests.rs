@@ -1,6 +1,8 @@
 //! Document 01's example and cases, on the unchanged Rust, and document 02's departures, on the amended one.
 
-use crate::listing::list;
+use crate::damage::Call;
+use crate::emitter::PseudoLine;
+use crate::listing::{list, list_changed, unchanged, Listing, Origin};
 use crate::record::{edge, example, kind, mnemonic as m, name, register as r, Block, Edge, Entry, Insn, Operand, Record};
 
 const EXAMPLE: &str = "lines=5
@@ -254,7 +256,7 @@ fn amended_where_a_request_departs() {
 }
 
 /// With bits 32 and 64 #114 changes nothing: memory operands are the unchanged Rust's, and so is every line but those that #104 and #106
-/// depart on, which the merged listing has from the amended one.
+/// depart on and #101 adds, which the merged listing has from the amended one.
 #[test]
 fn bits_16_alone_change_the_rest() {
     use crate::{amended, emitter, listing};
@@ -277,6 +279,171 @@ fn bits_16_alone_change_the_rest() {
         lines += merged.lines();
     }
     assert!(lines > 10_000, "{lines}");
+}
+
+/// A do-loop of these blocks and one that closes it, at 0x1000, 0x1010 and so on, with a return behind it. All labels are wanted.
+fn do_loop(bits: u16, bodies: &[&[Insn]]) -> Record {
+    let closing = [insn(m::DEC, &[reg(r::EAX)]), jcc("jne", 6, 0x1000)];
+    let ret = [insn(m::RET, &[])];
+    let block = |(place, insns): (usize, &[Insn])| {
+        let mut block = Block { start: 0x1000 + 16 * place as u64, label: 1, insns: insns.to_vec(), ..Block::default() };
+        block.edges.extend(block.jump_target().map(|to| Edge { to, kind: edge::UNCOND }));
+        block.edges.extend(block.branch_target().map(|to| Edge { to, kind: edge::TRUE }));
+        block
+    };
+    let blocks = bodies.iter().copied().chain([&closing[..], &ret]).enumerate().map(block).collect();
+    Record { bits, convention: 1, blocks, ..Record::default() }
+}
+
+fn jmp(target: u64) -> Insn {
+    insn(m::JMP, &[imm(kind::NEAR, target)])
+}
+
+fn inc() -> Insn {
+    insn(m::INC, &[reg(r::EAX)])
+}
+
+/// The lines of a loop's first block, where a second one and the closing one follow.
+fn first_block(bits: u16, insns: &[Insn]) -> Vec<String> {
+    let lines = lines(&do_loop(bits, &[insns, &[inc()]]));
+    let end = lines.iter().position(|l| l == "loc_1010:").unwrap();
+    assert_eq!(lines[end..], ["loc_1010:", "eax++;", "loc_1020:", "eax--;", "} while (eax != 0);", "loc_1030:", "return;"]);
+    assert_eq!(lines[0], "do {");
+    lines[1..end].to_vec()
+}
+
+#[test]
+fn jump_in_a_loop() {
+    let mut record = do_loop(64, &[&[inc(), jmp(0x1020)], &[inc()]]);
+    record.indent = 3;
+    record.blocks[0].insns[1].address = 0x1002;
+    let bytes = record.to_bytes();
+    assert_eq!(crate::questions::first_no(&bytes, 0, 4), 0);
+    let listing = list(&bytes, 0, 4).unwrap();
+    assert_eq!(listing.line(2), b"goto loc_1020;");
+    assert_eq!((listing.line_addresses[2], listing.line_marks[2]), (0x1002, 256 + 4));
+    assert_eq!(listing.tokens(2).map(|(k, _)| k).collect::<Vec<_>>(), [3, 0, 4, 6]);
+    assert_eq!((listing.added, listing.amended, listing.amended_16), (vec![2], 1, 0));
+    // A range without the closing block has no loop, and the line is the unchanged Rust's.
+    let part = list(&bytes, 0, 2).unwrap();
+    assert_eq!((part.line(2), part.amended), (&b"goto loc_1020;"[..], 0));
+}
+
+#[test]
+fn jump_in_a_loop_to_a_block() {
+    let goto = |target: u64| first_block(64, &[inc(), jmp(target)]);
+    assert_eq!(goto(0x1020), ["eax++;", "goto loc_1020;"]);
+    assert_eq!(goto(0x1030), ["eax++;", "goto loc_1030;"]);
+    // To itself, and a do-head has no label where no block outside the loop leads to it.
+    assert_eq!(goto(0x1000), ["eax++;", "goto loc_1000;"]);
+    let named = Entry { address: 0x1030, kind: 3, text: b"done".to_vec() };
+    let record = Record { atlas: vec![named], ..do_loop(64, &[&[jmp(0x1030)], &[]]) };
+    assert_eq!(lines(&record)[1], "goto done;");
+    // The second block's jumps: back to the head, and to no block.
+    for (target, line) in [(0x1000, "goto loc_1000;"), (0x1018, "return sub_1018();")] {
+        let both = do_loop(64, &[&[jmp(0x1020)], &[jmp(target)]]);
+        assert_eq!(lines(&both)[..5], ["do {", "goto loc_1020;", "loc_1010:", line, "loc_1020:"]);
+    }
+}
+
+#[test]
+fn jump_in_a_loop_to_no_block() {
+    let moves = [insn(m::MOV, &[reg(r::RDI), imm(5, 5)]), insn(m::MOV, &[reg(r::RSI), reg(r::RAX)]), jmp(0x5000)];
+    assert_eq!(first_block(64, &moves), ["rdi = 5;", "rsi = rax;", "return sub_5000(rdi, rsi);"]);
+    let pushes = [insn(m::PUSH, &[imm(5, 5)]), insn(m::PUSH, &[reg(r::EAX)]), jmp(0x5000)];
+    for bits in [16, 32] {
+        assert_eq!(first_block(bits, &pushes), ["return sub_5000(eax, 5);"]);
+    }
+    // #106 departs on what is pushed, and the line is added all the same.
+    let negative = [insn(m::PUSH, &[imm(kind::IMM8TO16, 0xffff)]), jmp(0x5000)];
+    assert_eq!(first_block(32, &negative), ["return sub_5000(-1);"]);
+    assert_eq!(first_block(64, &[jmp(0x5000)]), ["return sub_5000();"]);
+}
+
+/// What the skip mark silences: no last jump but one to the next block, which is silent anyway.
+#[test]
+fn jump_in_a_loop_silent() {
+    let skipped = |target: u64| Insn { skip: 1, ..jmp(target) };
+    assert_eq!(first_block(64, &[inc(), jmp(0x1010)]), ["eax++;"]);
+    assert_eq!(first_block(64, &[inc(), skipped(0x1010)]), ["eax++;"]);
+    assert_eq!(first_block(64, &[inc(), skipped(0x1020)]), ["eax++;", "goto loc_1020;"]);
+    assert_eq!(first_block(64, &[inc(), skipped(0x5000)]), ["eax++;", "return sub_5000();"]);
+    // A jump that is not last is silent, and an indirect one is as before.
+    assert_eq!(first_block(64, &[jmp(0x1030), skipped(0x5000), inc()]), ["eax++;"]);
+    let indirect = insn(m::JMP, &[reg(r::RAX)]);
+    assert_eq!(first_block(64, &[inc(), indirect]), ["eax++;", "goto *rax;"]);
+    assert_eq!(first_block(64, &[inc(), Insn { skip: 1, ..indirect }]), ["eax++;"]);
+}
+
+/// The merged listing is refused if the amended Rust adds another line than #101 says, lacks one, or moves another.
+#[test]
+fn amended_lines_are_held_to_the_request() {
+    let record = do_loop(64, &[&[jmp(0x1020)], &[inc(), jmp(0x1000)]]);
+    let listing = list_changed(&record, |_| ()).unwrap();
+    assert_eq!(listing.added, [1, 4]);
+    assert!(list_changed(&record, |lines| drop(lines.remove(4))).unwrap_err().contains("each jump that #101 names"));
+    assert!(list_changed(&record, |lines| lines[4].address = lines[1].address).unwrap_err().contains("each jump"));
+    assert!(list_changed(&record, |lines| lines[1].address = lines[3].address).unwrap_err().contains("each jump"));
+    for n in [0, 2, 3, 5, 6, 7, 8, 9] {
+        assert!(list_changed(&record, |lines| lines[n].indent += 1).unwrap_err().contains("other lines"));
+        assert!(list_changed(&record, |lines| drop(lines.remove(n))).unwrap_err().contains("other lines"));
+    }
+    let silent = do_loop(64, &[&[inc(), jmp(0x1010)], &[]]);
+    let shown = |lines: &mut Vec<PseudoLine>| {
+        let (address, tokens) = (lines[1].address.map(|a| a + 1), lines[1].tokens.clone());
+        lines.insert(2, PseudoLine { address, indent: 1, tokens });
+    };
+    assert!(list_changed(&silent, shown).unwrap_err().contains("other lines"));
+}
+
+/// The merged listing without the lines that #101 adds is the unchanged Rust's but where #104 and #106 depart. Each added line is "the same
+/// goto or return line as elsewhere": what the unchanged Rust writes if the range ends behind the jump's block, so that no loop is around it.
+/// Gotos and tail calls, skip-marked jumps, jumps to themselves and arguments are generated.
+#[test]
+fn added_lines_alone_are_new() {
+    let mut rng = crate::rng::Rng::new(7);
+    let (mut lines, mut gotos, mut calls, mut skipped, mut to_itself, mut arguments) = (0, 0, 0, 0, 0, 0);
+    for _ in 0..20_000 {
+        let Call { bytes, from, to } = crate::damage::valid_call(&mut rng);
+        let record = Record::parse(&bytes);
+        if record.bits == 16 {
+            continue;
+        }
+        let merged = crate::listing::list_record(&record, from, to).unwrap();
+        lines += same_without_added(&record, &merged, &unchanged(&record, from, to).unwrap());
+        for line in merged.added.iter().copied() {
+            let Origin::Instruction(n) = merged.origins[line] else { panic!("an instruction's line") };
+            let (jump, place) = (record.insns().nth(n).unwrap(), record.place_of(n));
+            let elsewhere = unchanged(&record, from, place + 1).unwrap();
+            let there = elsewhere.origins.iter().position(|o| *o == merged.origins[line]).unwrap();
+            assert!(crate::departures::lines(&record)[n] || merged.tokens(line).eq(elsewhere.tokens(there)));
+            let is_call = record.blocks.iter().all(|b| b.start != jump.operands[0].number);
+            gotos += usize::from(!is_call);
+            calls += usize::from(is_call);
+            skipped += usize::from(jump.skip == 1);
+            to_itself += usize::from(record.blocks[place].start == jump.operands[0].number);
+            arguments += usize::from(is_call && !merged.line(line).ends_with(b"();"));
+        }
+    }
+    let counts = [gotos, calls, skipped, to_itself, arguments];
+    assert!(lines > 100_000 && gotos > 500 && calls > 500 && skipped > 100 && to_itself > 40 && arguments > 100, "{counts:?}");
+}
+
+/// Compares the lines that are not added, one by one, and says how many they are.
+fn same_without_added(record: &Record, merged: &Listing, unchanged: &Listing) -> usize {
+    use Origin::*;
+    let departs = crate::departures::lines(record);
+    let kept: Vec<usize> = (0..merged.lines()).filter(|n| !merged.added.contains(n)).collect();
+    assert_eq!(kept.len(), unchanged.lines());
+    for (there, n) in kept.iter().enumerate() {
+        assert_eq!(merged.origins[*n], unchanged.origins[there]);
+        assert_eq!(merged.line_addresses[*n], unchanged.line_addresses[there]);
+        assert_eq!(merged.line_marks[*n], unchanged.line_marks[there]);
+        let is_departing = matches!(merged.origins[*n], Open(i) | While(i) | Instruction(i) if departs[i]);
+        assert!(is_departing || merged.tokens(*n).eq(unchanged.tokens(there)));
+    }
+    assert_eq!(unchanged.added, []);
+    kept.len()
 }
 
 /// A block of 16-bit code with this frame register.
@@ -636,10 +803,11 @@ fn corpus_is_what_the_oracle_writes() {
     assert!(crate::replay::corpus(crate::replay::COUNT, crate::replay::SEED).unwrap() == stored_corpus());
 }
 
-/// Every answer from 0 to 15 is there, and each case is as the questions and the Rust have it.
+/// Every answer from 0 to 15 is there, gotos and tail calls that #101 adds too, and each case is as the questions and the Rust have it.
 #[test]
 fn corpus_is_right() {
     let mut seen = [0; 16];
+    let mut added = Vec::new();
     for case in stored_cases() {
         let [from, to] = case.range;
         seen[case.no as usize] += 1;
@@ -652,10 +820,13 @@ fn corpus_is_right() {
             let ours = list(&case.record, from, to).unwrap();
             assert_eq!(case.sizes, [ours.text.len(), ours.token_ends.len(), ours.lines()]);
             lists = lists.filled(&ours);
+            added.extend(ours.added.iter().map(|n| ours.line(*n)[..4].to_vec()));
         }
         assert_eq!(case.sums, crate::replay::sums(&lists));
     }
     assert!(seen.iter().all(|n| *n > 0));
+    let count = |word: &[u8]| added.iter().filter(|line| *line == word).count();
+    assert!(count(b"goto") > 2 && count(b"retu") > 2);
 }
 
 #[cfg(feature = "abi")]

@@ -2,7 +2,7 @@
 
 use super::insns::{any_number, conditional, flag_writer, indirect, jcc, memory, operand, recipe, two};
 use super::World;
-use crate::record::{edge, kind, mnemonic as m, register as r, Block, Edge, Insn, Operand, Record};
+use crate::record::{edge, kind, mnemonic as m, register as r, Block, Edge, Insn, Operand, Record, NAME};
 use crate::rng::Rng;
 
 /// Different addresses, mostly rising.
@@ -209,6 +209,33 @@ pub fn agree(rng: &mut Rng, record: &mut Record) {
             block.edges.insert(at, Edge { to, kind: edge::TRUE });
         }
     }
+}
+
+/// Puts a direct jump in the place of some last instructions inside loops (#101), often to no block and often skip-marked. No size grows, and
+/// last instructions that branch stay.
+pub fn jump_in_loops(rng: &mut Rng, world: &World, record: &mut Record) {
+    for place in 0..record.blocks.len() {
+        if record.blocks[place].branch_target().is_some() || !is_in_loop(record, place) || !rng.percent(35) {
+            continue;
+        }
+        let target = if rng.percent(60) { any_number(rng, world) } else { rng.pick(&world.starts) };
+        let block = &mut record.blocks[place];
+        let Some(last) = block.insns.last_mut() else { continue };
+        *last = Insn { mnemonic: m::JMP, condition: 0, count: 1, skip: rng.percent(25) as u8, name: [0; NAME], ..*last };
+        last.operands[0] = Operand { kind: kind::NEAR, register: 0, number: target };
+        if let Some(e) = block.edges.first_mut() {
+            *e = Edge { to: target, kind: edge::UNCOND };
+        }
+        if let Some(to) = record.blocks.iter_mut().find(|b| b.start == target) {
+            to.label |= rng.percent(75) as u8;
+        }
+    }
+}
+
+/// A later block branches to this one or to one before it.
+fn is_in_loop(record: &Record, place: usize) -> bool {
+    let before = &record.blocks[..=place];
+    record.blocks[place + 1..].iter().filter_map(Block::branch_target).any(|to| before.iter().any(|b| b.start == to))
 }
 
 fn any_target(rng: &mut Rng, world: &World) -> u64 {

@@ -13,14 +13,14 @@ flat-lines-requires : tie.Need-flat-lines-requires
 flat-lines-requires c κs =
     let s = c .before .before .before .before in
     let a = s .args in
-    (search needs, room-second (do-parts (a .blocks .now) (a .shown .now) (a .i .0) (a .j .0) (a .indent)) (stored-none (a .out .now) (a .at)) (s .pre .1))
+    (search needs, search needs, room-second (do-parts (a .blocks .now) (a .shown .now) (a .i .0) (a .j .0) (a .indent)) (stored-none (a .out .now) (a .at)) (s .pre .2))
 
 test-block-requires : tie.Need-test-block-requires
 test-block-requires c κs =
     let f = c .before .before .before in
     let s = f .before .before .before .before .before in
     let a = s .args in
-    (search needs, room-third (do-parts (a .blocks .now) (a .shown .now) (a .i .0) (a .j .0) (a .indent)) (stored-none (a .out .now) (a .at)) (f .flat-lines .ensures) (s .pre .1))
+    (search needs, room-third (do-parts (a .blocks .now) (a .shown .now) (a .i .0) (a .j .0) (a .indent)) (stored-none (a .out .now) (a .at)) (f .flat-lines .ensures) (s .pre .2))
 
 same-length : tie.Need-same-length
 same-length c = search needs

@@ -32,7 +32,7 @@ emit-do-requires c κs =
     let l = b .before .before in
     let s = l .before .before .before .before .before .before .before in
     let a = s .args in
-    (search needs, room-third (loop-parts (a .blocks .now) (a .edges .now) (a .shown .now) (a .count) (a .i .0) (a .j .0) (a .indent)) (rw (l .head-labelled .ensures) at (b .label .ensures)) (m .put-line .ensures) (s .pre .2))
+    (search needs, search needs, room-third (loop-parts (a .blocks .now) (a .edges .now) (a .shown .now) (a .count) (a .i .0) (a .j .0) (a .indent)) (rw (l .head-labelled .ensures) at (b .label .ensures)) (m .put-line .ensures) (s .pre .2))
 
 same-length : tie.Need-same-length
 same-length c = search needs

@@ -12,7 +12,8 @@ use Rattle.structure.proofs.loops.flat_lines.Statement.{statement}
 use Rattle.structure.proofs.loops.flat_lines.Tie as tie
 
 abbrev Inv-loop : tie.InvT-loop
-Inv-loop blocks shown i indent out₀ at last k₀ next₀ out k next = Left out₀ at (codes (flatLines blocks shown (i .0) (i .0) (last - i .0) indent)) out next (codes (flatLines blocks shown (i .0) k (last - k) indent))
+Inv-loop blocks shown i indent out₀ at last k₀ next₀ out k next =
+    Left out₀ at (codes (flatLines blocks shown (i .0) last (i .0) (last - i .0) indent)) out next (codes (flatLines blocks shown (i .0) last k (last - k) indent))
 
 abbrev μ-loop : tie.MeasureT-loop
 μ-loop blocks shown i indent out₀ at last k₀ next₀ out k next = last - k
@@ -20,12 +21,22 @@ abbrev μ-loop : tie.MeasureT-loop
 loop-holds : tie.Need-loop-holds Inv-loop μ-loop
 loop-holds c = left-all _ _ _
 
-flat-block-requires : tie.Need-flat-block-requires Inv-loop μ-loop
-flat-block-requires c κs =
-    let l = c .before .before in
+inner-labelled-requires : tie.Need-inner-labelled-requires Inv-loop μ-loop
+inner-labelled-requires c κs = search needs
+
+add-t14 : tie.Need-add-t14 Inv-loop μ-loop
+add-t14 c = search needs
+
+emit-block-requires : tie.Need-emit-block-requires Inv-loop μ-loop
+emit-block-requires c κs =
+    let w = c .before in
+    let l = w .before .before in
     let s = l .before .before .before .before in
-    let a = s .args in
-    (search needs, left-part (l .loop .inv) (s .pre .1) (flats-turn (a .blocks .now) (a .shown .now) (a .i .0) (l .loop .k) (a .j .0) (a .indent) (c .before .loop-test .taken)))
+    let a = s .args in (
+      search needs,
+      rw (w .inner-labelled .ensures)
+          (left-part (l .loop .inv) (s .pre .2) (flats-turn (a .blocks .now) (a .shown .now) (a .i .0) (a .j .0) (l .loop .k) (a .indent) (w .before .loop-test .taken))),
+    )
 
 add-k : tie.Need-add-k Inv-loop μ-loop
 add-k c = search needs
@@ -36,9 +47,11 @@ loop-less c = search needs
 loop-again : tie.Need-loop-again Inv-loop μ-loop
 loop-again c =
     let b = c .before .before in
-    let l = b .before .before .before in
+    let w = b .before .before in
+    let l = w .before .before in
     let a = l .before .before .before .before .args in
-    left-step (l .loop .inv) (flats-turn (a .blocks .now) (a .shown .now) (a .i .0) (l .loop .k) (a .j .0) (a .indent) (b .before .before .loop-test .taken)) (b .flat-block .ensures)
+    left-step (l .loop .inv) (flats-turn (a .blocks .now) (a .shown .now) (a .i .0) (a .j .0) (l .loop .k) (a .indent) (w .before .loop-test .taken))
+    (rw (w .inner-labelled .ensures) at (b .emit-block .ensures))
 
 same-length : tie.Need-same-length Inv-loop μ-loop
 same-length c = left-length (c .before .loop .inv)
@@ -48,7 +61,7 @@ returns c =
     let l = c .before in
     let a = l .before .before .before .before .args in
     let e : a .j .0 - l .loop .k ≡ 0 = omega arith in
-    left-done (l .loop .inv) (ap (λ (m : ℕ). codes (flatLines (a .blocks .now) (a .shown .now) (a .i .0) (l .loop .k) m (a .indent))) e ∙ flats-over _ _ _ _ _)
+    left-done (l .loop .inv) (ap (λ (m : ℕ). codes (flatLines (a .blocks .now) (a .shown .now) (a .i .0) (a .j .0) (l .loop .k) m (a .indent))) e ∙ flats-over _ _ _ _ _ _)
 
 pub flat-lines-spec : {M : Type 1} → statement M
 flat-lines-spec =
@@ -57,7 +70,9 @@ flat-lines-spec =
     Inv-loop
     μ-loop
     loop-holds
-    flat-block-requires
+    inner-labelled-requires
+    add-t14
+    emit-block-requires
     add-k
     loop-less
     loop-again
