@@ -24,7 +24,7 @@ use Rattle.flow.specs.Planned.{recordPlan}
 use Rattle.flow.proofs.Bounds.{record-demand3, record-shallow, many-within}
 use Rattle.flow.proofs.Silenced.{unsilent-is, plain-jmps}
 use Rattle.tokens.proofs.ListingLaws.{lines-length}
-use Rattle.pseudo.specs.Listed.{addressFor, lineAddress, markFor, lineMark, recordLines, recordListing, recordAddresses, recordMarks}
+use Rattle.pseudo.specs.Listed.{addressFor, lineAddress, markFor, lineMark, recordLines, recordLists}
 use Rattle.pseudo.specs.Called.{Accepted}
 use Rattle.pseudo.specs.Demand.{staying, indentIn, NestedBy, ShallowBy, whatOf, placed, LinesDemand3}
 use Rattle.pseudo.proofs.Answers.{printed-length}
@@ -105,7 +105,7 @@ module _ (s : List ℕ) (from to : ℕ) (yes : firstNo s from to ≡ 0) where
       let e : from + (to - from) ≡ to = omega (arith, ordered) in
       omega (arith, record-demand3 h s from to .few, rw e at (many-within h s from (to - from) (omega (arith, ordered))))
 
-  pub listing-demand3 : LinesDemand3 s from to (recordAddresses h s from to) (recordMarks h s from to) (recordListing h s from to .lines)
+  pub listing-demand3 : LinesDemand3 s from to (recordLists h s from to .addresses) (recordLists h s from to .marks) (recordLists h s from to .lines)
   unfolding recordLines recordPlan
   listing-demand3 =
       let d = record-demand3 h s from to in

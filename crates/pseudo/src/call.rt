@@ -28,9 +28,10 @@ ghost use Rattle.line.specs.Codes.{rowBytes};
 ghost use Rattle.line.specs.Lines.{lineIn};
 ghost use Rattle.line.specs.Print.{printed};
 ghost use Rattle.line.specs.Fits.{Fits};
+ghost use Rattle.pseudo.specs.Listed.{listsOf};
 ghost use Rattle.pseudo.specs.Marks.{Indented};
 ghost use Rattle.pseudo.specs.Called.{PlanListed, Accepted, Called};
-ghost use Rattle.pseudo.specs.Promise.{listsOf, Promise};
+ghost use Rattle.pseudo.specs.Promise.{Promise};
 
 // A listing with its sizes, or the number of the question that got a no.
 pub enum Answer {
@@ -61,8 +62,8 @@ fn list_coded(
     requires { ⌜ Fits (printed h (now rec) range 0 (map lineIn (now plan))) ⌝ }
     requires { ⌜ Indented (now plan) ⌝ }
     ensures { λ r. ⌜ PlanListed h (now (rec .entry)) range (map lineIn (now (plan .entry)))
-        (now (text .entry)) (now (text .exit)) (now (ends .entry)) (now (ends .exit)) (now (kinds .entry)) (now (kinds .exit))
-        (now (addresses .entry)) (now (addresses .exit)) (now (marks .entry)) (now (marks .exit)) (now (lines .entry)) (now (lines .exit)) r ⌝ }
+        (listsOf (now (text .entry)) (now (ends .entry)) (now (kinds .entry)) (now (addresses .entry)) (now (marks .entry)) (now (lines .entry)))
+        (listsOf (now (text .exit)) (now (ends .exit)) (now (kinds .exit)) (now (addresses .exit)) (now (marks .exit)) (now (lines .exit))) r ⌝ }
 {
     let sizes = code_plan(codes, tables, rec, h, rows, blocks, range, plan);
     let rooms = Rooms {
@@ -117,8 +118,8 @@ fn list_plan(
     requires { ⌜ Fits (printed h (now rec) range 0 (map lineIn (now plan))) ⌝ }
     requires { ⌜ Indented (now plan) ⌝ }
     ensures { λ r. ⌜ PlanListed h (now (rec .entry)) range (map lineIn (now (plan .entry)))
-        (now (text .entry)) (now (text .exit)) (now (ends .entry)) (now (ends .exit)) (now (kinds .entry)) (now (kinds .exit))
-        (now (addresses .entry)) (now (addresses .exit)) (now (marks .entry)) (now (marks .exit)) (now (lines .entry)) (now (lines .exit)) r ⌝ }
+        (listsOf (now (text .entry)) (now (ends .entry)) (now (kinds .entry)) (now (addresses .entry)) (now (marks .entry)) (now (lines .entry)))
+        (listsOf (now (text .exit)) (now (ends .exit)) (now (kinds .exit)) (now (addresses .exit)) (now (marks .exit)) (now (lines .exit))) r ⌝ }
 {
     if plan.len() <= 200 {
         let mut codes = [0u64; 1536];
@@ -200,8 +201,8 @@ fn list_planned(
     requires { ⌜ Accepted (now rec) from to h ⌝ }
     requires { ⌜ h .instructions + 2 * h .blocks ≤ length (now made) ⌝ }
     ensures { λ r. ⌜ Called (now (rec .entry)) from to
-        (now (text .entry)) (now (text .exit)) (now (ends .entry)) (now (ends .exit)) (now (kinds .entry)) (now (kinds .exit))
-        (now (addresses .entry)) (now (addresses .exit)) (now (marks .entry)) (now (marks .exit)) (now (lines .entry)) (now (lines .exit)) r ⌝ }
+        (listsOf (now (text .entry)) (now (ends .entry)) (now (kinds .entry)) (now (addresses .entry)) (now (marks .entry)) (now (lines .entry)))
+        (listsOf (now (text .exit)) (now (ends .exit)) (now (kinds .exit)) (now (addresses .exit)) (now (marks .exit)) (now (lines .exit))) r ⌝ }
 {
     let n = plan_record(isa_of(tables), rec, h, blocks, from, to, made);
     let plan = part_u64(made, n);
@@ -242,8 +243,8 @@ fn list_range(
     requires { ⌜ 8 * h .blocks ≤ length (now block) ⌝ }
     requires { ⌜ h .instructions + 2 * h .blocks ≤ length (now made) ⌝ }
     ensures { λ r. ⌜ Called (now (rec .entry)) from to
-        (now (text .entry)) (now (text .exit)) (now (ends .entry)) (now (ends .exit)) (now (kinds .entry)) (now (kinds .exit))
-        (now (addresses .entry)) (now (addresses .exit)) (now (marks .entry)) (now (marks .exit)) (now (lines .entry)) (now (lines .exit)) r ⌝ }
+        (listsOf (now (text .entry)) (now (ends .entry)) (now (kinds .entry)) (now (addresses .entry)) (now (marks .entry)) (now (lines .entry)))
+        (listsOf (now (text .exit)) (now (ends .exit)) (now (kinds .exit)) (now (addresses .exit)) (now (marks .exit)) (now (lines .exit))) r ⌝ }
 {
     let table = tables();
     let tables: &[u8] = &table;
@@ -285,8 +286,8 @@ fn list_accepted(
 ) -> Answer
     requires { ⌜ Accepted (now rec) from to h ⌝ }
     ensures { λ r. ⌜ Called (now (rec .entry)) from to
-        (now (text .entry)) (now (text .exit)) (now (ends .entry)) (now (ends .exit)) (now (kinds .entry)) (now (kinds .exit))
-        (now (addresses .entry)) (now (addresses .exit)) (now (marks .entry)) (now (marks .exit)) (now (lines .entry)) (now (lines .exit)) r ⌝ }
+        (listsOf (now (text .entry)) (now (ends .entry)) (now (kinds .entry)) (now (addresses .entry)) (now (marks .entry)) (now (lines .entry)))
+        (listsOf (now (text .exit)) (now (ends .exit)) (now (kinds .exit)) (now (addresses .exit)) (now (marks .exit)) (now (lines .exit))) r ⌝ }
 {
     if (h.instructions <= 288) & (h.blocks <= 60) {
         let mut block = [0u16; 480];

@@ -30,7 +30,7 @@ list-accepted-requires : tie.Need-list-accepted-requires
 list-accepted-requires c κs = accepted ((c .before .before .before .before .before .before .before .before .before .before .before .before .before .before .before .before .before .args) .rec .now) ((c .before .before .before .before .before .before .before .before .before .before .before .before .before .before .before .before .before .args) .from) ((c .before .before .before .before .before .before .before .before .before .before .before .before .before .before .before .before .before .args) .to) _ (sym ((c .before .before .before .before .before .before .before .h) .given .1) ∙ (c .before .before .before .before .before .before .before .before .before .«record») .ensures .answer)
 
 returns : tie.Need-returns
-returns c = promised _ _ _ _ _ _ (called-no ((c .before .before .before .before .before .before .before .before .before .before .before .args) .rec .now) ((c .before .before .before .before .before .before .before .before .before .before .before .args) .from) ((c .before .before .before .before .before .before .before .before .before .before .before .args) .to) _ _ _ _ _ _ _ (sym ((c .before .n) .given .1) ∙ (c .before .before .before .«record») .ensures .answer))
+returns c = promised _ _ _ _ _ _ (called-no ((c .before .before .before .before .before .before .before .before .before .before .before .args) .rec .now) ((c .before .before .before .before .before .before .before .before .before .before .before .args) .from) ((c .before .before .before .before .before .before .before .before .before .before .before .args) .to) _ _ (sym ((c .before .n) .given .1) ∙ (c .before .before .before .«record») .ensures .answer))
 
 same-length : tie.Need-same-length
 same-length c = search needs
