@@ -1,4 +1,4 @@
--- What the call promises to callers in other languages: its number, the six lists, and the sizes in a list of their own.
+-- What the call promises to callers in other languages: its number, the seven lists, and the sizes in a list of their own.
 use Prim.Native.Nat.{ℕ}
 use mathlib.Core.List.{List, [], _∷_}
 use mathlib.Core.Path.{_≡_}

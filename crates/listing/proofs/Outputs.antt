@@ -64,7 +64,7 @@ zeros n = replicate n 0
 
 -- the lists that the program lends, before the call
 abbrev lent : Lists
-lent = listsOf (zeros 65536) (zeros 16384) (zeros 16384) (zeros 900) (zeros 900) (zeros 900)
+lent = listsOf (zeros 65536) (zeros 16384) (zeros 16384) (zeros 900) (zeros 900) (zeros 900) (zeros 900)
 
 rooms-are : roomsOf lent ≡ programRooms
 rooms-are = let l = length-replicate {A = ℕ} in rw (l 65536 0, l 16384 0, l 900 0)

@@ -13,7 +13,7 @@ use Rattle.listing.specs.declared.Input.the-variants.{All, Failed}
 
 -- "A listing over 65,536 text bytes is `no 12`, over 16,384 tokens `no 13`; 900 lines always suffice."
 abbrev pub programRooms : Rooms
-programRooms = record { text = 65536; ends = 16384; kinds = 16384; addresses = 900; marks = 900; lines = 900 }
+programRooms = record { text = 65536; ends = 16384; kinds = 16384; addresses = 900; marks = 900; places = 900; lines = 900 }
 
 -- the page of a listing
 abbrev pub pageOf : Lists → List ℕ

@@ -18,7 +18,7 @@ use Rattle.record.specs.declared.header.Header.{Header}
 use Rattle.structure.specs.Plan.{Line}
 use Rattle.line.specs.Lines.{lineIn}
 use Rattle.line.specs.Print.{maskAfter, printed}
-use Rattle.pseudo.specs.Listed.{lineAddress, lineMark, Lists, listsFor, planLists}
+use Rattle.pseudo.specs.Listed.{lineAddress, lineMark, linePlace, Lists, listsFor, planLists}
 use Rattle.lists.specs.Every.{both-yes}
 use Rattle.record.proofs.AskedLaws.{passed}
 use Rattle.pseudo.specs.Called.{roomNo, roomsOf, sizesOf, over, Stands, Leaves, PlanListed}
@@ -33,6 +33,7 @@ record Fit (new b : Lists) : Type 0 where
   kinds : length (new .kinds) ≤ length (b .kinds)
   addresses : length (new .addresses) ≤ length (b .addresses)
   marks : length (new .marks) ≤ length (b .marks)
+  places : length (new .places) ≤ length (b .places)
   lines : length (new .lines) ≤ length (b .lines)
 
 -- of a line for each one planned
@@ -47,14 +48,16 @@ room-yes h s ls p b each e =
     let y = passed 12 _ _ (x .1) in
     let z = passed 13 _ 0 (y .1) in
     let t = both-yes (leb tokens (length (b .ends))) (leb tokens (length (b .kinds))) (y .0) in
-    let u = both-yes (leb count (length (b .addresses)) && leb count (length (b .marks))) (leb count (length (b .lines))) (z .0) in
-    let v = both-yes (leb count (length (b .addresses))) (leb count (length (b .marks))) (u .0) in
+    let u = both-yes (leb count (length (b .addresses)) && leb count (length (b .marks)) && leb count (length (b .places))) (leb count (length (b .lines))) (z .0) in
+    let v = both-yes (leb count (length (b .addresses)) && leb count (length (b .marks))) (leb count (length (b .places))) (u .0) in
+    let w = both-yes (leb count (length (b .addresses))) (leb count (length (b .marks))) (v .0) in
     record {
       text = leb-true _ _ (x .0);
       ends = leb-true _ _ (t .0);
       kinds = omega (arith, leb-true tokens (length (b .kinds)) (t .1), kinds-as-ends ls);
-      addresses = leb-true _ _ (v .0);
-      marks = omega (arith, leb-true count (length (b .marks)) (v .1), length-map p (lineAddress h s), length-map p lineMark);
+      addresses = leb-true _ _ (w .0);
+      marks = omega (arith, leb-true count (length (b .marks)) (w .1), length-map p (lineAddress h s), length-map p lineMark);
+      places = omega (arith, leb-true count (length (b .places)) (v .1), length-map p (lineAddress h s), length-map p linePlace);
       lines = omega (arith, leb-true count (length (b .lines)) (u .1), length-map p (lineAddress h s), lines-length ls, each);
     }
 
@@ -64,7 +67,7 @@ stands-over new old l h e = e ∙ put-fits 0 new old (omega arith) ∙ rw zero-a
 -- a number: nothing was touched
 pub refused : (n : ℕ) (new b : Lists) → (n ≡ 0 → ⊥) → Leaves n new b b (No n)
 refused zero new b q = absurd (q refl)
-refused (suc n) new b q = record { answer = refl; text = refl; ends = refl; kinds = refl; addresses = refl; marks = refl; lines = refl }
+refused (suc n) new b q = record { answer = refl; text = refl; ends = refl; kinds = refl; addresses = refl; marks = refl; places = refl; lines = refl }
 
 -- a listing: each list holds its part
 stored : (n : ℕ) (new b a : Lists) → n ≡ 0 → Fit new b → Stands new b a → Leaves n new b a (Listed (sizesOf new))
@@ -77,6 +80,7 @@ stored n new b a d y w =
       kinds = stands-over _ _ _ (y .kinds) (w .kinds);
       addresses = stands-over _ _ _ (y .addresses) (w .addresses);
       marks = stands-over _ _ _ (y .marks) (w .marks);
+      places = stands-over _ _ _ (y .places) (w .places);
       lines = stands-over _ _ _ (y .lines) (w .lines);
     })
 
@@ -105,11 +109,14 @@ module _ (h : Header) (s : List ℕ) (range : ℕ) (codes : List ℕ) (b : Lists
   fits : n ≡ 0 → Fit new b
   fits o = room-yes h s (printed h s range 0 plan) plan b (printed-length h s range 0 plan) (sym asked ∙ o)
 
-  -- no question of room gets a no: there is room for the addresses and marks
-  pub plan-room : n ≡ 0 → (length codes ≤ length (b .addresses)) × (length codes ≤ length (b .marks))
+  -- no question of room gets a no: there is room for the addresses, marks and places
+  pub plan-room : n ≡ 0 → (length codes ≤ length (b .addresses)) × (length codes ≤ length (b .marks)) × (length codes ≤ length (b .places))
   plan-room o =
-      let count = length-map codes lineIn in
-      (omega (arith, fits o .addresses, length-map plan (lineAddress h s), count), omega (arith, fits o .marks, length-map plan lineMark, count))
+      let count = length-map codes lineIn in (
+        omega (arith, fits o .addresses, length-map plan (lineAddress h s), count),
+        omega (arith, fits o .marks, length-map plan lineMark, count),
+        omega (arith, fits o .places, length-map plan linePlace, count),
+      )
 
   -- no question of room gets a no: the lists are as long as the listing's
   pub plan-holds : n ≡ 0 → Holds (listing (printed h s range 0 plan)) (b .text) (b .ends) (b .kinds) (b .lines)

@@ -153,7 +153,8 @@ module _ (h : Header) (s : List ℕ) (range mask i n : ℕ) (cs : List ℕ) (bel
         → Left x₀ e₀ k₀ l₀ ls x′ e′ k′ l′ r (printed h s range m (map lineIn (drop (i + 1) cs)))
     part-turn m x′ e′ k′ l′ r d a b c f w = left-turn v next _ (printed-step h s range cs i mask m below d) x′ e′ k′ l′ r a b c f (rw part-is at w)
 
--- ---- all six lists
-pub stands : (t : Listing) (va mk : List ℕ) (b a : Lists) → Printed t (b .text) (a .text) (b .ends) (a .ends) (b .kinds) (a .kinds) (b .lines) (a .lines)
-    → a .addresses ≡ put 0 va (b .addresses) → a .marks ≡ put 0 mk (b .marks) → Stands (listsOf (t .text) (t .ends) (t .kinds) va mk (t .lines)) b a
-stands t va mk b a q y z = record { text = q .text; ends = q .ends; kinds = q .kinds; addresses = y; marks = z; lines = q .lines }
+-- ---- all seven lists
+pub stands : (t : Listing) (va mk pl : List ℕ) (b a : Lists) → Printed t (b .text) (a .text) (b .ends) (a .ends) (b .kinds) (a .kinds) (b .lines) (a .lines)
+    → a .addresses ≡ put 0 va (b .addresses) → a .marks ≡ put 0 mk (b .marks) → a .places ≡ put 0 pl (b .places)
+    → Stands (listsOf (t .text) (t .ends) (t .kinds) va mk pl (t .lines)) b a
+stands t va mk pl b a q y z w = record { text = q .text; ends = q .ends; kinds = q .kinds; addresses = y; marks = z; places = w; lines = q .lines }

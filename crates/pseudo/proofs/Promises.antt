@@ -62,7 +62,7 @@ room-within : (z : Sizes) (r : Rooms) → roomNo z r ≤ 15
 unfolding roomNo
 room-within z r =
     let tokens = leb (z .tokens) (r .ends) && leb (z .tokens) (r .kinds) in
-    let lines = leb (z .lines) (r .addresses) && leb (z .lines) (r .marks) && leb (z .lines) (r .lines) in
+    let lines = leb (z .lines) (r .addresses) && leb (z .lines) (r .marks) && leb (z .lines) (r .places) && leb (z .lines) (r .lines) in
     ask-kept (λ (n : ℕ). n ≤ 15) 12 (leb (z .text) (r .text)) (ask 13 tokens (ask 14 lines 0)) (omega arith)
     (ask-kept (λ (n : ℕ). n ≤ 15) 13 tokens (ask 14 lines 0) (omega arith) (ask-kept (λ (n : ℕ). n ≤ 15) 14 lines 0 (omega arith) (omega arith)))
 
@@ -83,8 +83,8 @@ read-back : (n : ℕ) (new old l : List ℕ) → length new ≡ n → l ≡ over
 read-back n new old l e p =
     ap (take n) p ∙ take-append-le n new (drop (length new) old) (omega arith) ∙ take-all n new (omega arith)
 
-same : {x x′ e e′ k k′ a a′ m m′ l l′ : List ℕ} → x′ ≡ x → e′ ≡ e → k′ ≡ k → a′ ≡ a → m′ ≡ m → l′ ≡ l → listsOf x′ e′ k′ a′ m′ l′ ≡ listsOf x e k a m l
-same p q r s t u = rw (p, q, r, s, t, u)
+same : {x x′ e e′ k k′ a a′ m m′ p p′ l l′ : List ℕ} → x′ ≡ x → e′ ≡ e → k′ ≡ k → a′ ≡ a → m′ ≡ m → p′ ≡ p → l′ ≡ l → listsOf x′ e′ k′ a′ m′ p′ l′ ≡ listsOf x e k a m p l
+same p q r s t u v = rw (p, q, r, s, t, u, v)
 
 -- a line of tokens for each address
 lines-each : (s : List ℕ) (from to : ℕ) → length (recordLists (headerOf s) s from to .addresses) ≡ length (recordLines (headerOf s) s from to)
@@ -111,10 +111,11 @@ module _ (s : List ℕ) (from to : ℕ) (b a : Lists) (r : Answer) (c : Called s
 
   refused : (n : ℕ) → Left n → (n ≡ 0 → ⊥) → (valuesOf r ≡ record { text = 0; tokens = 0; lines = 0 }) × (a ≡ b)
   refused zero p o = absurd (o refl)
-  refused (suc n) p o = (ap valuesOf (p .answer), same (p .text) (p .ends) (p .kinds) (p .addresses) (p .marks) (p .lines))
+  refused (suc n) p o = (ap valuesOf (p .answer), same (p .text) (p .ends) (p .kinds) (p .addresses) (p .marks) (p .places) (p .lines))
 
   listed : (n : ℕ) → Left n → n ≡ 0 → firstNo s from to ≡ 0
-      → LinesDemand3 s from to (take (valuesOf r .lines) (a .addresses)) (take (valuesOf r .lines) (a .marks)) (take (valuesOf r .lines) (a .lines))
+      → LinesDemand3 s from to (take (valuesOf r .lines) (a .addresses)) (take (valuesOf r .lines) (a .marks)) (take (valuesOf r .lines) (a .places))
+      (take (valuesOf r .lines) (a .lines))
   listed (suc n) p z q = absurd (omega arith)
   listed zero p z q =
       let d = listing-demand3 s from to q in
@@ -124,6 +125,7 @@ module _ (s : List ℕ) (from to : ℕ) (b a : Lists) (r : Answer) (c : Called s
         size,
         read-back n (new .addresses) (b .addresses) (a .addresses) refl (p .addresses),
         read-back n (new .marks) (b .marks) (a .marks) (d .marked) (p .marks),
+        read-back n (new .places) (b .places) (a .places) (d .placed-lines) (p .places),
         read-back n (new .lines) (b .lines) (a .lines) (d .ended) (p .lines),
       ) d
 

@@ -1,4 +1,4 @@
--- The call: its answer, and what it leaves in the six lists.
+-- The call: its answer, and what it leaves in the seven lists.
 use Prim.Native.Nat.{ℕ, zero, suc}
 use mathlib.Core.Bool.{_&&_}
 use mathlib.Core.List.{List, _++_}
@@ -21,12 +21,12 @@ abbrev pub numberOf : Answer → ℕ
 numberOf (Listed z) = 0
 numberOf (No n) = n
 
--- "12. Text list long enough? 13. Token lists? 14. Line lists?"
+-- "12. Text list long enough? 13. Token lists? 14. Line lists?"; #107: "14 covers the added list."
 unfoldable pub roomNo : Sizes → Rooms → ℕ
 roomNo z r =
     ask 12 (leb (z .text) (r .text))
     (ask 13 (leb (z .tokens) (r .ends) && leb (z .tokens) (r .kinds))
-    (ask 14 (leb (z .lines) (r .addresses) && leb (z .lines) (r .marks) && leb (z .lines) (r .lines))
+    (ask 14 (leb (z .lines) (r .addresses) && leb (z .lines) (r .marks) && leb (z .lines) (r .places) && leb (z .lines) (r .lines))
     0))
 
 -- the answer with this number, and with the sizes where it is 0
@@ -50,6 +50,7 @@ pub record Stands (new b a : Lists) : Type 0 where
   pub kinds : a .kinds ≡ put 0 (new .kinds) (b .kinds)
   pub addresses : a .addresses ≡ put 0 (new .addresses) (b .addresses)
   pub marks : a .marks ≡ put 0 (new .marks) (b .marks)
+  pub places : a .places ≡ put 0 (new .places) (b .places)
   pub lines : a .lines ≡ put 0 (new .lines) (b .lines)
 
 -- how much lists have
@@ -64,6 +65,7 @@ roomsOf l = record {
   kinds = length (l .kinds);
   addresses = length (l .addresses);
   marks = length (l .marks);
+  places = length (l .places);
   lines = length (l .lines);
 }
 
@@ -76,6 +78,7 @@ pub record Leaves (n : ℕ) (new b a : Lists) (r : Answer) : Type 0 where
   pub kinds : a .kinds ≡ left n (new .kinds) (b .kinds)
   pub addresses : a .addresses ≡ left n (new .addresses) (b .addresses)
   pub marks : a .marks ≡ left n (new .marks) (b .marks)
+  pub places : a .places ≡ left n (new .places) (b .places)
   pub lines : a .lines ≡ left n (new .lines) (b .lines)
 
 -- the listing of a plan's lines, in a range whose first instruction is `range`

@@ -42,4 +42,5 @@ pub record Promise (s : List ℕ) (from to : ℕ) (b a : Lists) (r : Answer) : T
       → LoopsClose (headerOf s) s 0 (recordPlan (headerOf s) s from to) (take (valuesOf r .lines) (a .addresses))
   -- demand 3, of the lines that the lists hold
   pub demand3 : numberOf r ≡ 0
-      → LinesDemand3 s from to (take (valuesOf r .lines) (a .addresses)) (take (valuesOf r .lines) (a .marks)) (take (valuesOf r .lines) (a .lines))
+      → LinesDemand3 s from to (take (valuesOf r .lines) (a .addresses)) (take (valuesOf r .lines) (a .marks)) (take (valuesOf r .lines) (a .places))
+      (take (valuesOf r .lines) (a .lines))
