@@ -34,7 +34,7 @@ enum cakirotu_answer {
     CAKIROTU_NO_RANGE = 11,        /* from <= to <= the record's blocks? */
     CAKIROTU_NO_TEXT_ROOM = 12,    /* is the text list long enough? */
     CAKIROTU_NO_TOKEN_ROOM = 13,   /* are ends and kinds? */
-    CAKIROTU_NO_LINE_ROOM = 14,    /* are addresses, marks and lines? */
+    CAKIROTU_NO_LINE_ROOM = 14,    /* are addresses, marks, places and lines? */
     CAKIROTU_NO_BRANCHES = 15      /* asked between 8 and 9: has each block that ends in a conditional near branch one True edge,
                                       to the branch's target, and any other block none? */
 };
@@ -68,11 +68,14 @@ enum cakirotu_kind {
  * kinds      for each token an enum cakirotu_kind
  * addresses  for each line its address, 0 if it has none
  * marks      for each line its mark
+ * places     for each line the place of its block in the record: for a label, an instruction or an opening line the block it was written
+ *            for, for a lone closing brace the block whose branch opened it, for a while-line the loop's last block
  * lines      for each line the number of tokens up to its end; it begins where the line before ends
  * sizes      gets text bytes, tokens, lines; a list shorter than 3 gets the first ones */
 uint8_t cakirotu_list(const uint8_t *rec, size_t rec_len, size_t from, size_t to, uint8_t *text, size_t text_len, uint32_t *ends,
                       size_t ends_len, uint8_t *kinds, size_t kinds_len, uint64_t *addresses, size_t addresses_len, uint16_t *marks,
-                      size_t marks_len, uint32_t *lines, size_t lines_len, uint64_t *sizes, size_t sizes_len);
+                      size_t marks_len, uint16_t *places, size_t places_len, uint32_t *lines, size_t lines_len, uint64_t *sizes,
+                      size_t sizes_len);
 
 /* The sizes of that listing: lists of just these lengths suffice for cakirotu_list. Answers 0 or a number, none of 12 to 14. */
 uint8_t cakirotu_size(const uint8_t *rec, size_t rec_len, size_t from, size_t to, uint64_t *sizes, size_t sizes_len);

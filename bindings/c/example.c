@@ -18,6 +18,7 @@ struct listing {
     uint8_t *kinds;
     uint64_t *addresses;
     uint16_t *marks;
+    uint16_t *places;
     uint32_t *lines;
 };
 
@@ -60,6 +61,7 @@ static void lend(struct listing *l) {
     l->kinds = room(l->sizes[CAKIROTU_TOKENS], sizeof *l->kinds);
     l->addresses = room(l->sizes[CAKIROTU_LINES], sizeof *l->addresses);
     l->marks = room(l->sizes[CAKIROTU_LINES], sizeof *l->marks);
+    l->places = room(l->sizes[CAKIROTU_LINES], sizeof *l->places);
     l->lines = room(l->sizes[CAKIROTU_LINES], sizeof *l->lines);
 }
 
@@ -69,6 +71,7 @@ static void give_back(struct listing *l) {
     free(l->kinds);
     free(l->addresses);
     free(l->marks);
+    free(l->places);
     free(l->lines);
 }
 
@@ -77,7 +80,7 @@ static uint8_t fill(const uint8_t *record, size_t len, size_t from, size_t to, s
     size_t tokens = (size_t)l->sizes[CAKIROTU_TOKENS];
     size_t lines = (size_t)l->sizes[CAKIROTU_LINES];
     return cakirotu_list(record, len, from, to, l->text, text, l->ends, tokens, l->kinds, tokens, l->addresses, lines, l->marks, lines,
-                         l->lines, lines, l->sizes, CAKIROTU_SIZES);
+                         l->places, lines, l->lines, lines, l->sizes, CAKIROTU_SIZES);
 }
 
 static void print(const struct listing *l) {

@@ -7,10 +7,12 @@
 #include <string.h>
 
 #define BLOCKS 3
-#define LISTS 6
+#define LISTS 7
+#define PLACES 5
 
-static const size_t ENTRY[LISTS] = {sizeof(uint8_t), sizeof(uint32_t), sizeof(uint8_t), sizeof(uint64_t), sizeof(uint16_t), sizeof(uint32_t)};
-static const uint8_t TOO_SHORT[LISTS] = {CAKIROTU_NO_TEXT_ROOM, CAKIROTU_NO_TOKEN_ROOM, CAKIROTU_NO_TOKEN_ROOM,
+static const size_t ENTRY[LISTS] = {sizeof(uint8_t),  sizeof(uint32_t), sizeof(uint8_t), sizeof(uint64_t),
+                                    sizeof(uint16_t), sizeof(uint16_t), sizeof(uint32_t)};
+static const uint8_t TOO_SHORT[LISTS] = {CAKIROTU_NO_TEXT_ROOM, CAKIROTU_NO_TOKEN_ROOM, CAKIROTU_NO_TOKEN_ROOM, CAKIROTU_NO_LINE_ROOM,
                                          CAKIROTU_NO_LINE_ROOM, CAKIROTU_NO_LINE_ROOM,  CAKIROTU_NO_LINE_ROOM};
 static int passed;
 
@@ -23,7 +25,7 @@ static int passed;
         passed++;                                                    \
     } while (0)
 
-/* The lists in the call's order: text, ends, kinds, addresses, marks, lines. */
+/* The lists in the call's order: text, ends, kinds, addresses, marks, places, lines. */
 struct lists {
     size_t len[LISTS];
     void *at[LISTS];
@@ -59,14 +61,15 @@ static int unchanged(struct lists *l, const size_t from[LISTS]) {
 
 static uint8_t list(const uint8_t *rec, size_t len, size_t from, size_t to, const struct lists *l, uint64_t *sizes, size_t n) {
     return cakirotu_list(rec, len, from, to, l->at[0], l->len[0], l->at[1], l->len[1], l->at[2], l->len[2], l->at[3], l->len[3], l->at[4],
-                         l->len[4], l->at[5], l->len[5], sizes, n);
+                         l->len[4], l->at[5], l->len[5], l->at[6], l->len[6], sizes, n);
 }
 
 static const size_t NONE[LISTS];
 
 /* The lengths that a listing of these sizes needs. */
 static void exact(const uint64_t sizes[CAKIROTU_SIZES], size_t len[LISTS]) {
-    static const int which[LISTS] = {CAKIROTU_TEXT_BYTES, CAKIROTU_TOKENS, CAKIROTU_TOKENS, CAKIROTU_LINES, CAKIROTU_LINES, CAKIROTU_LINES};
+    static const int which[LISTS] = {CAKIROTU_TEXT_BYTES, CAKIROTU_TOKENS, CAKIROTU_TOKENS, CAKIROTU_LINES,
+                                     CAKIROTU_LINES,      CAKIROTU_LINES,  CAKIROTU_LINES};
     for (int i = 0; i < LISTS; i++) {
         len[i] = (size_t)sizes[which[i]];
     }
@@ -131,6 +134,34 @@ static void test_sizes(const uint8_t *rec, size_t len, const uint64_t need[CAKIR
     }
 }
 
+/* The places of a range's lines are these, and the entry behind them is as it was. */
+static void placed(const uint8_t *rec, size_t len, size_t from, const uint16_t *want, size_t n) {
+    uint64_t sizes[CAKIROTU_SIZES];
+    size_t longer[LISTS];
+    CHECK(cakirotu_size(rec, len, from, BLOCKS, sizes, CAKIROTU_SIZES) == CAKIROTU_LISTED);
+    CHECK(sizes[CAKIROTU_LINES] == n);
+    exact(sizes, longer);
+    longer[PLACES] = n + 1;
+    struct lists l = lend(longer);
+    CHECK(list(rec, len, from, BLOCKS, &l, sizes, CAKIROTU_SIZES) == CAKIROTU_LISTED);
+    const uint16_t *places = l.at[PLACES];
+    for (size_t i = 0; i < n; i++) {
+        CHECK(places[i] == want[i]);
+    }
+    longer[PLACES] = n;
+    CHECK(unchanged(&l, longer));
+}
+
+/* The record's places, of the whole and of parts: `if`, an instruction, the brace, a label, the return. */
+static void test_places(const uint8_t *rec, size_t len) {
+    static const uint16_t places[] = {0, 1, 0, 2, 2};
+    static const uint16_t part[] = {1, 2, 2};
+    placed(rec, len, 0, places, 5);
+    placed(rec, len, 1, part, 3);
+    placed(rec, len, 2, part + 1, 2);
+    placed(rec, len, 3, NULL, 0);
+}
+
 /* Every shorter record is refused: by 1 without a header, else by 4. */
 static void test_cut(const uint8_t *rec, size_t len) {
     for (size_t n = 0; n < len; n++) {
@@ -183,6 +214,7 @@ int main(int argc, char **argv) {
     test_null(rec, len);
     test_lengths(rec, len, need);
     test_sizes(rec, len, need);
+    test_places(rec, len);
     test_cut(rec, len);
     test_branches(rec, len);
     printf("test: %d passed\n", passed);

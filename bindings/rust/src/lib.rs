@@ -56,7 +56,7 @@ pub fn blocks(record: &[u8]) -> Blocks {
     }
 }
 
-/// Six lists that a call fills. The two of tokens may differ in length, and so may the three of lines: the shortest counts.
+/// Seven lists that a call fills. The two of tokens may differ in length, and so may the four of lines: the shortest counts.
 #[derive(Debug, Default)]
 pub struct Lists<'a> {
     /// The tokens' text, one after another.
@@ -69,6 +69,8 @@ pub struct Lists<'a> {
     pub addresses: &'a mut [u64],
     /// For each line its indent, plus 256 if it has an address.
     pub marks: &'a mut [u16],
+    /// For each line the place of its block in the record, as [`Line::place`] has it.
+    pub places: &'a mut [u16],
     /// For each line the number of tokens up to its end.
     pub lines: &'a mut [u32],
 }
@@ -82,6 +84,7 @@ impl Lists<'_> {
             self.kinds.get(..sizes.tokens)?,
             self.addresses.get(..sizes.lines)?,
             self.marks.get(..sizes.lines)?,
+            self.places.get(..sizes.lines)?,
             self.lines.get(..sizes.lines)?,
         )
     }
@@ -116,6 +119,7 @@ pub struct Listing {
     kinds: Box<[u8]>,
     addresses: Box<[u64]>,
     marks: Box<[u16]>,
+    places: Box<[u16]>,
     lines: Box<[u32]>,
 }
 
@@ -127,6 +131,7 @@ impl Listing {
             kinds: vec![0; sizes.tokens].into(),
             addresses: vec![0; sizes.lines].into(),
             marks: vec![0; sizes.lines].into(),
+            places: vec![0; sizes.lines].into(),
             lines: vec![0; sizes.lines].into(),
         }
     }
@@ -138,6 +143,7 @@ impl Listing {
             kinds: &mut self.kinds,
             addresses: &mut self.addresses,
             marks: &mut self.marks,
+            places: &mut self.places,
             lines: &mut self.lines,
         }
     }
@@ -148,7 +154,7 @@ impl Listing {
 
     /// The listing line by line.
     pub fn view(&self) -> View<'_> {
-        View::of(&self.text, &self.ends, &self.kinds, &self.addresses, &self.marks, &self.lines)
+        View::of(&self.text, &self.ends, &self.kinds, &self.addresses, &self.marks, &self.places, &self.lines)
             .expect("an accepted call's lists")
     }
 }

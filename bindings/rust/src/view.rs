@@ -38,6 +38,7 @@ pub struct View<'a> {
     kinds: &'a [u8],
     addresses: &'a [u64],
     marks: &'a [u16],
+    places: &'a [u16],
     lines: &'a [u32],
 }
 
@@ -49,12 +50,13 @@ impl<'a> View<'a> {
         kinds: &'a [u8],
         addresses: &'a [u64],
         marks: &'a [u16],
+        places: &'a [u16],
         lines: &'a [u32],
     ) -> Option<View<'a>> {
-        let lengths = kinds.len() == ends.len() && addresses.len() == lines.len() && marks.len() == lines.len();
+        let lengths = kinds.len() == ends.len() && [addresses.len(), marks.len(), places.len()] == [lines.len(); 3];
         let known = kinds.iter().all(|kind| Kind::from_number(*kind).is_some()) && marks.iter().all(|mark| *mark < 2 * ADDRESSED);
         let whole = rise_to(ends, text.len()) && rise_to(lines, ends.len());
-        (lengths && known && whole).then_some(View { text, ends, kinds, addresses, marks, lines })
+        (lengths && known && whole).then_some(View { text, ends, kinds, addresses, marks, places, lines })
     }
 
     pub fn sizes(&self) -> Sizes {
@@ -76,6 +78,7 @@ impl<'a> View<'a> {
         Line {
             address: (mark >= ADDRESSED).then_some(self.addresses[at]),
             indent: (mark % ADDRESSED) as u8,
+            place: self.places[at].into(),
             view: *self,
             first: before(self.lines, at),
             end: self.lines[at] as usize,
@@ -103,6 +106,10 @@ pub struct Line<'a> {
     /// That of the instruction or block that the line is written for.
     pub address: Option<u64>,
     pub indent: u8,
+    /// The place of its block in the record, as [`Blocks`](crate::Blocks) counts them, in a listing of some blocks too: for a label, an
+    /// instruction or an opening line the block it was written for, for a lone closing brace the block whose branch opened it, for a
+    /// while-line the loop's last block.
+    pub place: usize,
     view: View<'a>,
     first: usize,
     end: usize,

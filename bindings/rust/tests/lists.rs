@@ -5,20 +5,24 @@ mod common;
 use cakirotu::{list, list_into, size, Kind, Lists, Refusal, Sizes, View};
 use common::{exact, example, nest, Lent};
 
-const LINES: [(Option<u64>, u8, &str); 5] = [
-    (Some(0x1002), 1, "if (eax == 0) {"),
-    (Some(0x1004), 2, "eax = 5;"),
-    (None, 1, "}"),
-    (Some(0x1010), 0, "loc_1010:"),
-    (Some(0x1010), 1, "return;"),
+/// A line's address, indent, place and text.
+type Row<T> = (Option<u64>, u8, usize, T);
+
+const LINES: [Row<&str>; 5] = [
+    (Some(0x1002), 1, 0, "if (eax == 0) {"),
+    (Some(0x1004), 2, 1, "eax = 5;"),
+    (None, 1, 0, "}"),
+    (Some(0x1010), 0, 2, "loc_1010:"),
+    (Some(0x1010), 1, 2, "return;"),
 ];
 
-fn lines_of(view: View<'_>) -> Vec<(Option<u64>, u8, String)> {
-    view.lines().map(|line| (line.address, line.indent, String::from_utf8(line.text().to_vec()).unwrap())).collect()
+fn lines_of(view: View<'_>) -> Vec<Row<String>> {
+    let text = |bytes: &[u8]| String::from_utf8(bytes.to_vec()).unwrap();
+    view.lines().map(|line| (line.address, line.indent, line.place, text(line.text()))).collect()
 }
 
-fn expected() -> Vec<(Option<u64>, u8, String)> {
-    LINES.map(|(address, indent, text)| (address, indent, text.to_string())).to_vec()
+fn expected() -> Vec<Row<String>> {
+    LINES.map(|(address, indent, place, text)| (address, indent, place, text.to_string())).to_vec()
 }
 
 #[test]
@@ -44,7 +48,7 @@ fn exact_fit_passes() {
 #[test]
 fn one_too_short_is_refused_and_changes_nothing() {
     let sizes = size(&example(), 0..3).unwrap();
-    let numbers = [12, 13, 13, 14, 14, 14];
+    let numbers = [12, 13, 13, 14, 14, 14, 14];
     for (which, number) in numbers.into_iter().enumerate() {
         let mut lengths = exact(sizes);
         lengths[which] -= 1;
@@ -59,7 +63,7 @@ fn one_too_short_is_refused_and_changes_nothing() {
 fn entries_past_the_sizes_stay() {
     let sizes = size(&example(), 0..3).unwrap();
     let fit = exact(sizes);
-    let more = [3, 1, 2, 4, 1, 2];
+    let more = [3, 1, 2, 4, 1, 3, 2];
     let mut left = Lent::new(std::array::from_fn(|n| fit[n] + more[n]));
     assert_eq!(list_into(&example(), 0..3, &mut left.lists()), Ok(sizes));
     assert_eq!(lines_of(left.lists().view(sizes).unwrap()), expected());
@@ -68,7 +72,8 @@ fn entries_past_the_sizes_stay() {
     assert_eq!(left.kinds.split_off(fit[2]), [0xee; 2]);
     assert_eq!(left.addresses.split_off(fit[3]), [0xeeee_eeee_eeee_eeee; 4]);
     assert_eq!(left.marks.split_off(fit[4]), [0xeeee; 1]);
-    assert_eq!(left.lines.split_off(fit[5]), [0xeeee_eeee; 2]);
+    assert_eq!(left.places.split_off(fit[5]), [0xeeee; 3]);
+    assert_eq!(left.lines.split_off(fit[6]), [0xeeee_eeee; 2]);
 }
 
 #[test]
@@ -90,12 +95,13 @@ fn empty_slices() {
     assert_eq!(list_into(&example(), 0..3, &mut Lists::default()), Err(Refusal::TextRoom));
 }
 
+/// Places are the record's in a part of it too.
 #[test]
 fn parts_of_a_record() {
     let last = list(&example(), 2..3).unwrap();
     assert_eq!(lines_of(last.view()), expected()[3..]);
     let middle = list(&example(), (1, 2)).unwrap();
-    assert_eq!(lines_of(middle.view()), [(Some(0x1004), 1, "eax = 5;".to_string())]);
+    assert_eq!(lines_of(middle.view()), [(Some(0x1004), 1, 1, "eax = 5;".to_string())]);
 }
 
 #[test]
@@ -112,6 +118,9 @@ fn little_stack_suffices() {
     let small = std::thread::Builder::new().stack_size(STACK);
     let listing = small.spawn(|| list(&nest(), 0..200)).unwrap().join().unwrap().unwrap();
     assert_eq!(listing.view().lines().map(|line| line.indent).max(), Some(253));
+    // The opening lines of places 0 to 197, the if-goto of 198, their braces from the innermost on, and the return.
+    let places: Vec<usize> = listing.view().lines().map(|line| line.place).collect();
+    assert_eq!(places, (0..199).chain((0..198).rev()).chain([199]).collect::<Vec<_>>());
 }
 
 const STACK: usize = 256 * 1024;
@@ -130,9 +139,11 @@ fn a_view_needs_lists_that_hold_together() {
     ];
     wrong.into_iter().for_each(|sizes| assert!(lent.lists().view(sizes).is_none()));
     assert!(Lent::new(exact(sizes)).lists().view(sizes).is_none());
-    assert!(View::of(b"ab", &[2, 1, 2], &[0, 0, 0], &[0], &[0], &[3]).is_none());
-    assert!(View::of(b"ab", &[2], &[8], &[0], &[0], &[1]).is_none());
-    assert!(View::of(b"ab", &[2], &[0], &[0], &[512], &[1]).is_none());
-    assert!(View::of(b"ab", &[2], &[0], &[], &[0], &[1]).is_none());
-    assert!(View::of(b"ab", &[2], &[0], &[0], &[0], &[1]).is_some());
+    assert!(View::of(b"ab", &[2, 1, 2], &[0, 0, 0], &[0], &[0], &[0], &[3]).is_none());
+    assert!(View::of(b"ab", &[2], &[8], &[0], &[0], &[0], &[1]).is_none());
+    assert!(View::of(b"ab", &[2], &[0], &[0], &[512], &[0], &[1]).is_none());
+    assert!(View::of(b"ab", &[2], &[0], &[], &[0], &[0], &[1]).is_none());
+    assert!(View::of(b"ab", &[2], &[0], &[0], &[0], &[], &[1]).is_none());
+    assert!(View::of(b"ab", &[2], &[0], &[0], &[0], &[0, 0], &[1]).is_none());
+    assert!(View::of(b"ab", &[2], &[0], &[0], &[0], &[0], &[1]).is_some());
 }

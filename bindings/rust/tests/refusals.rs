@@ -9,7 +9,7 @@ use common::{example, example_with_atlas, Lent, BODIES, BODY, EDGE_KINDS, EDGE_T
 fn refused(record: &[u8], blocks: Blocks, no: Refusal) {
     assert_eq!(size(record, blocks), Err(no));
     assert_eq!(list(record, blocks), Err(no));
-    let lent = Lent::new([500; 6]);
+    let lent = Lent::new([500; 7]);
     let mut left = lent.clone();
     assert_eq!(list_into(record, blocks, &mut left.lists()), Err(no));
     assert_eq!(left, lent);
@@ -128,7 +128,7 @@ fn agreed(record: &[u8]) -> u8 {
     let listing = list(record, 0..3);
     let sizes = listing.as_ref().map(|l| l.sizes()).map_err(|no| *no);
     assert_eq!(size(record, (0, 3)), sizes);
-    let lent = Lent::new([4096; 6]);
+    let lent = Lent::new([4096; 7]);
     let mut left = lent.clone();
     assert_eq!(list_into(record, (0, 3), &mut left.lists()), sizes);
     match sizes {

@@ -9,14 +9,14 @@ use common::Lent;
 /// A stored call.
 struct Case {
     record: Vec<u8>,
-    lengths: [usize; 6],
+    lengths: [usize; 7],
     no: u8,
     sizes: Sizes,
     range: (usize, usize),
-    sums: [u64; 6],
+    sums: [u64; 7],
 }
 
-const HEAD: usize = 108;
+const HEAD: usize = 120;
 
 fn cases() -> Vec<Case> {
     let file = concat!(env!("CARGO_MANIFEST_DIR"), "/../../crates/replay/stdin");
@@ -32,14 +32,14 @@ fn cases() -> Vec<Case> {
 }
 
 fn case(bytes: &[u8]) -> Case {
-    let [text, tokens, lines] = [32, 36, 40].map(|at| u32_at(bytes, at));
+    let [text, tokens, lines] = [36, 40, 44].map(|at| u32_at(bytes, at));
     Case {
         record: bytes[HEAD..HEAD + u32_at(bytes, 0)].to_vec(),
-        lengths: [4, 8, 12, 16, 20, 24].map(|at| u32_at(bytes, at)),
-        no: bytes[28],
+        lengths: [4, 8, 12, 16, 20, 24, 28].map(|at| u32_at(bytes, at)),
+        no: bytes[32],
         sizes: Sizes { text, tokens, lines },
-        range: (u64_at(bytes, 44) as usize, u64_at(bytes, 52) as usize),
-        sums: [60, 68, 76, 84, 92, 100].map(|at| u64_at(bytes, at)),
+        range: (u64_at(bytes, 48) as usize, u64_at(bytes, 56) as usize),
+        sums: [64, 72, 80, 88, 96, 104, 112].map(|at| u64_at(bytes, at)),
     }
 }
 
@@ -51,13 +51,14 @@ fn u64_at(bytes: &[u8], at: usize) -> u64 {
     u64::from_le_bytes(bytes[at..at + 8].try_into().unwrap())
 }
 
-fn sums(l: &Lent) -> [u64; 6] {
+fn sums(l: &Lent) -> [u64; 7] {
     [
         sum(l.text.iter().map(|n| u64::from(*n))),
         sum(l.ends.iter().map(|n| u64::from(*n))),
         sum(l.kinds.iter().map(|n| u64::from(*n))),
         sum(l.addresses.iter().flat_map(|n| [n & 0xffff_ffff, n >> 32])),
         sum(l.marks.iter().map(|n| u64::from(*n))),
+        sum(l.places.iter().map(|n| u64::from(*n))),
         sum(l.lines.iter().map(|n| u64::from(*n))),
     ]
 }
@@ -98,6 +99,10 @@ fn size_and_list_agree_with_every_stored_call() {
         assert_eq!(cakirotu::list_into(&case.record, case.range, &mut lent.lists()), Ok(listing.sizes()));
         let view = lent.lists().view(listing.sizes()).map(|view| view.text().to_vec());
         assert_eq!(view.as_deref(), Some(listing.view().text()), "case {n}");
+        assert!(
+            listing.view().lines().map(|line| line.place).eq(lent.places.iter().map(|place| usize::from(*place))),
+            "case {n}"
+        );
     }
 }
 

@@ -7,8 +7,9 @@ use lib.ListN.{set}
 use Rattle.lists.specs.Put.{put}
 use Rattle.lists.specs.PutLaws.{put-cons, put-none}
 use Rattle.record.specs.Asked.{firstNo}
+use Rattle.pseudo.specs.Listed.{Lists}
 use Rattle.pseudo.specs.Called.{numberOf, sizes, answerFor}
-use Rattle.pseudo.specs.Promise.{listsOf, Promise}
+use Rattle.pseudo.specs.Promise.{Promise}
 use Rattle.pseudo.specs.declared.call.Answer.{Answer}
 use Rattle.abi.specs.Exported.{sizeList, answered, Exported, Sized}
 
@@ -16,13 +17,13 @@ use Rattle.abi.specs.Exported.{sizeList, answered, Exported, Sized}
 pub put-three : (e e₁ e₂ e₃ : List ℕ) (a b c : ℕ) → e₁ ≡ set e 0 a → e₂ ≡ set e₁ 1 b → e₃ ≡ set e₂ 2 c → e₃ ≡ put 0 (a ∷ b ∷ c ∷ []) e
 put-three e e₁ e₂ e₃ a b c p q r = r ∙ rw (q, p, put-cons, put-cons, put-cons, put-none)
 
-pub exported : (s : List ℕ) (from to : ℕ) (x x′ e e′ k k′ a a′ m m′ l l′ z z′ : List ℕ) (g : Answer) (n : ℕ) → Promise s from to (listsOf x e k a m l) (listsOf x′ e′ k′ a′ m′ l′) g
-    → n ≡ numberOf g → z′ ≡ put 0 (sizeList g) z → Exported s from to x x′ e e′ k k′ a a′ m m′ l l′ z z′ n
-exported s from to x x′ e e′ k k′ a a′ m m′ l l′ z z′ g n p h q =
-    let i : g ≡ answered s from to x e k a m l = p .called .answer in
+pub exported : (s : List ℕ) (from to : ℕ) (b a : Lists) (z z′ : List ℕ) (g : Answer) (n : ℕ) → Promise s from to b a g → n ≡ numberOf g → z′ ≡ put 0 (sizeList g) z
+    → Exported s from to b a z z′ n
+exported s from to b a z z′ g n p h q =
+    let i : g ≡ answered s from to b = p .called .answer in
     record {
       number = h ∙ ap numberOf i;
-      lists = subst (λ (g : Answer). Promise s from to (listsOf x e k a m l) (listsOf x′ e′ k′ a′ m′ l′) g) i p;
+      lists = subst (λ (g : Answer). Promise s from to b a g) i p;
       sizes = q ∙ ap (λ (g : Answer). put 0 (sizeList g) z) i;
     }
 

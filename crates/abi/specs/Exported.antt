@@ -1,11 +1,12 @@
--- What the call promises to callers in other languages: its number, the six lists, and the sizes in a list of their own.
+-- What the call promises to callers in other languages: its number, the seven lists, and the sizes in a list of their own.
 use Prim.Native.Nat.{ℕ}
 use mathlib.Core.List.{List, [], _∷_}
 use mathlib.Core.Path.{_≡_}
 use Rattle.lists.specs.Put.{put}
 use Rattle.record.specs.Asked.{firstNo}
+use Rattle.pseudo.specs.Listed.{Lists}
 use Rattle.pseudo.specs.Called.{answerFor, numberOf, roomsOf, sizes, callNo}
-use Rattle.pseudo.specs.Promise.{listsOf, Promise}
+use Rattle.pseudo.specs.Promise.{Promise}
 use Rattle.pseudo.specs.declared.call.Answer.{Answer}
 use Rattle.pseudo.specs.declared.call.Answer.the-variants.{Listed, No}
 
@@ -15,13 +16,13 @@ sizeList (Listed z) = z .text ∷ z .tokens ∷ z .lines ∷ []
 sizeList (No n) = 0 ∷ 0 ∷ 0 ∷ []
 
 module _ (s : List ℕ) (from to : ℕ) where
-  abbrev pub answered : (x e k a m l : List ℕ) → Answer
-  answered x e k a m l = answerFor (sizes s from to) (callNo s from to (roomsOf x e k a m l))
+  abbrev pub answered : Lists → Answer
+  answered b = answerFor (sizes s from to) (callNo s from to (roomsOf b))
 
-  pub record Exported (x x′ e e′ k k′ a a′ m m′ l l′ z z′ : List ℕ) (r : ℕ) : Type 0 where
-    pub number : r ≡ numberOf (answered x e k a m l)
-    pub lists : Promise s from to (listsOf x e k a m l) (listsOf x′ e′ k′ a′ m′ l′) (answered x e k a m l)
-    pub sizes : z′ ≡ put 0 (sizeList (answered x e k a m l)) z
+  pub record Exported (b a : Lists) (z z′ : List ℕ) (r : ℕ) : Type 0 where
+    pub number : r ≡ numberOf (answered b)
+    pub lists : Promise s from to b a (answered b)
+    pub sizes : z′ ≡ put 0 (sizeList (answered b)) z
 
   -- the sizes alone: what the questions before 12 answer
   pub record Sized (z z′ : List ℕ) (r : ℕ) : Type 0 where

@@ -6,6 +6,7 @@ use pseudo::size::size;
 ghost use mathlib.Core.List.{[], _∷_};
 ghost use mathlib.Core.Path.{_≡_};
 ghost use Rattle.lists.specs.Put.{put};
+ghost use Rattle.pseudo.specs.Listed.{listsOf};
 ghost use Rattle.pseudo.specs.Called.{numberOf};
 ghost use Rattle.abi.specs.Exported.{sizeList, Exported, Sized};
 
@@ -47,15 +48,27 @@ pub extern "C" fn cakirotu_list(
     kinds: &mut [u8],
     addresses: &mut [u64],
     marks: &mut [u16],
+    places: &mut [u16],
     lines: &mut [u32],
     sizes: &mut [u64],
 ) -> u8
     ensures { λ r. ⌜ Exported (now (rec .entry)) from to
-        (now (text .entry)) (now (text .exit)) (now (ends .entry)) (now (ends .exit)) (now (kinds .entry)) (now (kinds .exit))
-        (now (addresses .entry)) (now (addresses .exit)) (now (marks .entry)) (now (marks .exit)) (now (lines .entry)) (now (lines .exit))
+        (listsOf (now (text .entry)) (now (ends .entry)) (now (kinds .entry)) (now (addresses .entry)) (now (marks .entry)) (now (places .entry)) (now (lines .entry)))
+        (listsOf (now (text .exit)) (now (ends .exit)) (now (kinds .exit)) (now (addresses .exit)) (now (marks .exit)) (now (places .exit)) (now (lines .exit)))
         (now (sizes .entry)) (now (sizes .exit)) r ⌝ }
 {
-    let answer = list(rec, from, to, text, ends, kinds, addresses, marks, lines);
+    let answer = list(
+        rec,
+        from,
+        to,
+        text,
+        ends,
+        kinds,
+        addresses,
+        marks,
+        places,
+        lines,
+    );
     put_answer(sizes, answer)
 }
 

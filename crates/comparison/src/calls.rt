@@ -1,6 +1,7 @@
 // The product's functions under their own names: an archive has the exports of its own crate alone.
 use abi::export::cakirotu_list as list;
 use abi::export::cakirotu_size as size;
+ghost use Rattle.pseudo.specs.Listed.{listsOf};
 ghost use Rattle.abi.specs.Exported.{Exported, Sized};
 
 #[no_mangle]
@@ -13,12 +14,13 @@ pub extern "C" fn cakirotu_list(
     kinds: &mut [u8],
     addresses: &mut [u64],
     marks: &mut [u16],
+    places: &mut [u16],
     lines: &mut [u32],
     sizes: &mut [u64],
 ) -> u8
     ensures { λ r. ⌜ Exported (now (rec .entry)) from to
-        (now (text .entry)) (now (text .exit)) (now (ends .entry)) (now (ends .exit)) (now (kinds .entry)) (now (kinds .exit))
-        (now (addresses .entry)) (now (addresses .exit)) (now (marks .entry)) (now (marks .exit)) (now (lines .entry)) (now (lines .exit))
+        (listsOf (now (text .entry)) (now (ends .entry)) (now (kinds .entry)) (now (addresses .entry)) (now (marks .entry)) (now (places .entry)) (now (lines .entry)))
+        (listsOf (now (text .exit)) (now (ends .exit)) (now (kinds .exit)) (now (addresses .exit)) (now (marks .exit)) (now (places .exit)) (now (lines .exit)))
         (now (sizes .entry)) (now (sizes .exit)) r ⌝ }
 {
     list(
@@ -30,6 +32,7 @@ pub extern "C" fn cakirotu_list(
         kinds,
         addresses,
         marks,
+        places,
         lines,
         sizes,
     )

@@ -9,7 +9,7 @@ use Rattle.record.specs.declared.header.Header.{Header}
 use Rattle.record.specs.Layout.{marksOf, bodiesOf}
 use Rattle.record.specs.Blocks.{instructionsIn, firstInstruction}
 use Rattle.record.specs.Body.{bodyAt, mnemonicOf, isConditionalBranch, operandNumber}
-use Rattle.structure.specs.Demand.{Context}
+use Rattle.structure.specs.Demand.{Context, Owned, owned}
 use Rattle.structure.specs.Demand.Context.{in-range, last-in-body}
 use Rattle.flow.specs.Silent.{folded, isDirectJmp, isSkipped}
 use Rattle.flow.specs.Rows.{placeOf}
@@ -49,11 +49,11 @@ module _ (h : Header) (s : List ℕ) where
       isSilentJmp c k i || (not (isSpared c k i) && (isSkipped (h .bits) (h .frame) (bodyIn i) || folded (mnemonicOf (bodyIn i))))
 
   -- of n instructions of block k from i on, those that are not silent
-  unfoldable pub unsilent : Context → ℕ → ℕ → ℕ → List ℕ
+  unfoldable pub unsilent : Context → ℕ → ℕ → ℕ → List Owned
   unsilent c k i zero = []
-  unsilent c k i (suc n) = pick (isSilent c k i) (unsilent c k (suc i) n) (i ∷ unsilent c k (suc i) n)
+  unsilent c k i (suc n) = pick (isSilent c k i) (unsilent c k (suc i) n) (owned k i ∷ unsilent c k (suc i) n)
 
   -- "in block order": of blocks from place k on, each in its context
-  unfoldable pub unsilentIn : ℕ → List Context → List ℕ
+  unfoldable pub unsilentIn : ℕ → List Context → List Owned
   unsilentIn k [] = []
   unsilentIn k (c ∷ cs) = unsilent c k (firstInstruction (marksOf h s) k) (instructionsIn (marksOf h s) k) ++ unsilentIn (suc k) cs

@@ -9,7 +9,6 @@ use lib.ListN.{length, take, drop, length-append, length-map, replicate, length-
 use lib.Seq.{take-append-seam}
 use Rattle.lists.specs.Put.{put}
 use Rattle.lists.specs.PutLaws.{put-fits}
-use Rattle.tokens.specs.Listing.{Listing}
 use Rattle.tokens.proofs.ListingLaws.{lines-length}
 use Rattle.record.specs.Header.{headerOf}
 use Rattle.operand.proofs.Bounds.{AllBytes}
@@ -19,7 +18,7 @@ use Rattle.flow.specs.Planned.{recordPlan}
 use Rattle.pseudo.specs.declared.rooms.Sizes.{Sizes}
 use Rattle.pseudo.specs.declared.call.Answer.{Answer}
 use Rattle.pseudo.specs.declared.call.Answer.the-variants.{Listed, No}
-use Rattle.pseudo.specs.Listed.{lineAddress, lineMark, recordLines, recordListing, recordAddresses, recordMarks}
+use Rattle.pseudo.specs.Listed.{lineAddress, lineMark, Lists, listsOf, recordLines, recordLists}
 use Rattle.pseudo.specs.Called.{numberOf, answerFor, left, roomsOf, sizes, callNo, Called}
 use Rattle.pseudo.proofs.Answers.{printed-length}
 use Rattle.page.specs.Page.{refusal, linesEnd, pageText}
@@ -63,82 +62,77 @@ roomy n k new old l z p q =
 abbrev zeros : ℕ → List ℕ
 zeros n = replicate n 0
 
-rooms-are : (x e k a m l : List ℕ) → length x ≡ 65536 → length e ≡ 16384 → length k ≡ 16384 → length a ≡ 900 → length m ≡ 900 → length l ≡ 900
-    → roomsOf x e k a m l ≡ programRooms
-rooms-are x e k a m l p q r u v w = rw (p, q, r, u, v, w)
+-- the lists that the program lends, before the call
+abbrev lent : Lists
+lent = listsOf (zeros 65536) (zeros 16384) (zeros 16384) (zeros 900) (zeros 900) (zeros 900) (zeros 900)
 
-module _ (s : List ℕ) (to : ℕ) (whole : to ≡ headerOf s .blocks) (x′ e′ k′ a′ m′ l′ : List ℕ) (g : Answer)
-    (called : Called s 0 to (zeros 65536) x′ (zeros 16384) e′ (zeros 16384) k′ (zeros 900) a′ (zeros 900) m′ (zeros 900) l′ g) where
+rooms-are : roomsOf lent ≡ programRooms
+rooms-are = let l = length-replicate {A = ℕ} in rw (l 65536 0, l 16384 0, l 900 0)
+
+module _ (s : List ℕ) (to : ℕ) (whole : to ≡ headerOf s .blocks) (a : Lists) (g : Answer) (called : Called s 0 to lent a g) where
   abbrev n : ℕ
-  n = callNo s 0 to (roomsOf (zeros 65536) (zeros 16384) (zeros 16384) (zeros 900) (zeros 900) (zeros 900))
+  n = callNo s 0 to (roomsOf lent)
 
-  abbrev t : Listing
-  t = recordListing (headerOf s) s 0 to
+  abbrev new : Lists
+  new = recordLists (headerOf s) s 0 to
 
-  abbrev va : List ℕ
-  va = recordAddresses (headerOf s) s 0 to
-
-  abbrev mk : List ℕ
-  mk = recordMarks (headerOf s) s 0 to
-
-  output : outputText s ≡ outputFor n (pageOf t va mk)
+  output : outputText s ≡ outputFor n (pageOf new)
   unfolding outputText
-  output =
-      let l = length-replicate {A = ℕ} in
-      rw (whole, rooms-are (zeros 65536) (zeros 16384) (zeros 16384) (zeros 900) (zeros 900) (zeros 900) (l 65536 0) (l 16384 0) (l 16384 0) (l 900 0) (l 900 0) (l 900 0))
+  output = rw (whole, rooms-are)
 
   pub no-output : (j : ℕ) → g ≡ No j → outputText s ≡ refusal j
-  no-output j h = output ∙ refused-output j (sizes s 0 to) n (pageOf t va mk) (sym h ∙ called .answer)
+  no-output j h = output ∙ refused-output j (sizes s 0 to) n (pageOf new) (sym h ∙ called .answer)
 
   module _ (z : Sizes) (h : g ≡ Listed z) where
     zeroed : (n ≡ 0) × (z ≡ sizes s 0 to)
     zeroed = listed-zero z (sizes s 0 to) n (sym h ∙ called .answer)
 
-    many : length (t .lines) ≡ length va
+    many : length (new .lines) ≡ length (new .addresses)
     unfolding recordLines
     many =
         let p = recordPlan (headerOf s) s 0 to in
         lines-length (recordLines (headerOf s) s 0 to) ∙ printed-length (headerOf s) s (firstIn (blockRows (headerOf s) s) 0) 0 p ∙ sym (length-map p (lineAddress (headerOf s) s))
 
-    marked : length mk ≡ length va
+    marked : length (new .marks) ≡ length (new .addresses)
     marked =
         let p = recordPlan (headerOf s) s 0 to in
         length-map p lineMark ∙ sym (length-map p (lineAddress (headerOf s) s))
 
-    text-size : z .text ≡ length (t .text)
+    text-size : z .text ≡ length (new .text)
     text-size = ap (λ (z : Sizes). z .text) (zeroed .1)
 
-    lines-size : z .lines ≡ length va
+    lines-size : z .lines ≡ length (new .addresses)
     lines-size = ap (λ (z : Sizes). z .lines) (zeroed .1)
 
     -- the listing fits the lists
-    pub few-lines : z .lines ≤ length a′
-    few-lines = roomy n (z .lines) va (zeros 900) a′ (zeroed .0) (called .addresses) lines-size
+    pub few-lines : z .lines ≤ length (a .addresses)
+    few-lines = roomy n (z .lines) (new .addresses) (lent .addresses) (a .addresses) (zeroed .0) (called .addresses) lines-size
 
-    pub short-text : z .text ≤ length x′
-    short-text = roomy n (z .text) (t .text) (zeros 65536) x′ (zeroed .0) (called .text) text-size
+    pub short-text : z .text ≤ length (a .text)
+    short-text = roomy n (z .text) (new .text) (lent .text) (a .text) (zeroed .0) (called .text) text-size
 
-    pub page-output : (tx en li ad ma : List ℕ) → tx ≡ take (z .text) x′ → en ≡ take (z .tokens) e′ → li ≡ take (z .lines) l′ → ad ≡ take (z .lines) a′ → ma ≡ take (z .lines) m′
-        → pageText tx en li ad ma (z .lines) ≡ outputText s
+    pub page-output : (tx en li ad ma : List ℕ) → tx ≡ take (z .text) (a .text) → en ≡ take (z .tokens) (a .ends) → li ≡ take (z .lines) (a .lines)
+        → ad ≡ take (z .lines) (a .addresses) → ma ≡ take (z .lines) (a .marks) → pageText tx en li ad ma (z .lines) ≡ outputText s
     page-output tx en li ad ma b c d f i =
         let o = zeroed .0 in
         rw (
-          b ∙ taken n (z .text) (t .text) (zeros 65536) x′ o (called .text) text-size,
-          c ∙ taken n (z .tokens) (t .ends) (zeros 16384) e′ o (called .ends) (ap (λ (z : Sizes). z .tokens) (zeroed .1)),
-          d ∙ taken n (z .lines) (t .lines) (zeros 900) l′ o (called .lines) (lines-size ∙ sym many),
-          f ∙ taken n (z .lines) va (zeros 900) a′ o (called .addresses) lines-size,
-          i ∙ taken n (z .lines) mk (zeros 900) m′ o (called .marks) (lines-size ∙ sym marked),
+          b ∙ taken n (z .text) (new .text) (lent .text) (a .text) o (called .text) text-size,
+          c ∙ taken n (z .tokens) (new .ends) (lent .ends) (a .ends) o (called .ends) (ap (λ (z : Sizes). z .tokens) (zeroed .1)),
+          d ∙ taken n (z .lines) (new .lines) (lent .lines) (a .lines) o (called .lines) (lines-size ∙ sym many),
+          f ∙ taken n (z .lines) (new .addresses) (lent .addresses) (a .addresses) o (called .addresses) lines-size,
+          i ∙ taken n (z .lines) (new .marks) (lent .marks) (a .marks) o (called .marks) (lines-size ∙ sym marked),
           lines-size,
         )
-        (sym (output ∙ ap (λ (n : ℕ). outputFor n (pageOf t va mk)) o))
+        (sym (output ∙ ap (λ (n : ℕ). outputFor n (pageOf new)) o))
 
     -- "lines=900" and LF, 900 lines of 528 bytes beside their text, and the text
-    pub short-output : AllBytes s → length x′ ≡ 65536 → length a′ ≡ 900 → length (outputText s) ≤ 540746
+    pub short-output : AllBytes s → length (a .text) ≡ 65536 → length (a .addresses) ≡ 900 → length (outputText s) ≤ 540746
     short-output bytes p q =
         let ls = recordLines (headerOf s) s 0 to in
-        let same : length ls ≡ length va = sym (lines-length ls) ∙ many in
+        let count = length (new .addresses) in
+        let same : length ls ≡ count = sym (lines-length ls) ∙ many in
         let plan = recordPlan (headerOf s) s 0 to in
-        let short = page-short (t .text) (t .ends) (t .lines) va mk (addresses-small (headerOf s) s bytes plan) (length va) (λ i h. ends-rise ls i (omega arith)) (omega (arith, few-lines, lines-size)) in
-        let last : linesEnd (t .ends) (t .lines) (length va) ≡ length (t .text) = ap (linesEnd (t .ends) (t .lines)) (sym same) ∙ last-end ls in
-        let is : length (outputText s) ≡ length (pageOf t va mk) = ap length (output ∙ ap (λ (n : ℕ). outputFor n (pageOf t va mk)) (zeroed .0)) in
+        let short = page-short (new .text) (new .ends) (new .lines) (new .addresses) (new .marks) (addresses-small (headerOf s) s bytes plan) count (λ i h. ends-rise ls i (omega arith)) (omega (arith, few-lines, lines-size)) in
+        let last : linesEnd (new .ends) (new .lines) count ≡ length (new .text) = ap (linesEnd (new .ends) (new .lines)) (sym same) ∙ last-end ls in
+        let is : length (outputText s) ≡ length (pageOf new) = ap length (output ∙ ap (λ (n : ℕ). outputFor n (pageOf new)) (zeroed .0)) in
         omega (arith, short, last, is, few-lines, lines-size, short-text, text-size)

@@ -12,14 +12,14 @@ use Rattle.record.specs.Header.{headerOf}
 use Rattle.record.specs.Asked.{ask, orElse, firstNo}
 use Rattle.flow.specs.Planned.{recordPlan}
 use Rattle.flow.proofs.Bounds.{record-few}
-use Rattle.pseudo.specs.Listed.{lineAddress, recordAddresses}
+use Rattle.pseudo.specs.Listed.{lineAddress, recordLists}
 use Rattle.pseudo.specs.Called.{Accepted, roomNo, sizes, callNo}
 use Rattle.pseudo.proofs.Calls.{limits, counted, in-range}
 use Rattle.pseudo.proofs.Promises.{ask-kept, first-kept}
 use Rattle.listing.specs.Output.{programRooms, blocks}
 
 module _ (s : List ℕ) where
-  lines-suffice : firstNo s 0 (blocks s) ≡ 0 → length (recordAddresses (headerOf s) s 0 (blocks s)) ≤ 900
+  lines-suffice : firstNo s 0 (blocks s) ≡ 0 → length (recordLists (headerOf s) s 0 (blocks s) .addresses) ≤ 900
   lines-suffice e =
       let h = headerOf s in
       let to = blocks s in

@@ -3,10 +3,9 @@ use Prim.Native.Nat.{ℕ, zero, suc, _≤_, _<_}
 use mathlib.Core.List.{List}
 use mathlib.Core.Path.{_≡_}
 use lib.ListN.{length, take}
-use Rattle.tokens.specs.Listing.{Listing}
 use Rattle.record.specs.Header.{headerOf}
 use Rattle.pseudo.specs.declared.rooms.Rooms.{Rooms}
-use Rattle.pseudo.specs.Listed.{recordListing, recordAddresses, recordMarks}
+use Rattle.pseudo.specs.Listed.{Lists, recordLists}
 use Rattle.pseudo.specs.Called.{callNo}
 use Rattle.page.specs.Page.{refusal, pageText}
 use Rattle.listing.specs.declared.Input.{Input}
@@ -14,11 +13,11 @@ use Rattle.listing.specs.declared.Input.the-variants.{All, Failed}
 
 -- "A listing over 65,536 text bytes is `no 12`, over 16,384 tokens `no 13`; 900 lines always suffice."
 abbrev pub programRooms : Rooms
-programRooms = record { text = 65536; ends = 16384; kinds = 16384; addresses = 900; marks = 900; lines = 900 }
+programRooms = record { text = 65536; ends = 16384; kinds = 16384; addresses = 900; marks = 900; places = 900; lines = 900 }
 
--- the page of a listing, with its lines' addresses and marks
-abbrev pub pageOf : Listing → List ℕ → List ℕ → List ℕ
-pageOf t va mk = pageText (t .text) (t .ends) (t .lines) va mk (length va)
+-- the page of a listing
+abbrev pub pageOf : Lists → List ℕ
+pageOf l = pageText (l .text) (l .ends) (l .lines) (l .addresses) (l .marks) (length (l .addresses))
 
 -- the number, or the page
 abbrev pub outputFor : ℕ → List ℕ → List ℕ
@@ -31,7 +30,7 @@ module _ (s : List ℕ) where
   blocks = headerOf s .blocks
 
   abbrev pub recordPage : List ℕ
-  recordPage = pageOf (recordListing (headerOf s) s 0 blocks) (recordAddresses (headerOf s) s 0 blocks) (recordMarks (headerOf s) s 0 blocks)
+  recordPage = pageOf (recordLists (headerOf s) s 0 blocks)
 
   unfoldable pub outputText : List ℕ
   outputText = outputFor (callNo s 0 blocks programRooms) recordPage

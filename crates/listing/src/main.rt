@@ -31,6 +31,7 @@ fn answer(rec: &[u8], out: &mut [u8]) -> usize
     let mut kinds = [0u8; 16384];
     let mut addresses = [0u64; 900];
     let mut marks = [0u16; 900];
+    let mut places = [0u16; 900];
     let mut lines = [0u32; 900];
     match list(
         rec,
@@ -41,6 +42,7 @@ fn answer(rec: &[u8], out: &mut [u8]) -> usize
         &mut kinds,
         &mut addresses,
         &mut marks,
+        &mut places,
         &mut lines,
     ) {
         Answer::Listed(z) => put_page(

@@ -12,70 +12,76 @@ use lib.ListN.{length, length-map}
 use Rattle.lists.specs.Put.{put}
 use Rattle.lists.specs.PutLaws.{put-fits}
 use Rattle.tokens.specs.Token.{Token}
-use Rattle.tokens.specs.Listing.{Listing, listing}
+use Rattle.tokens.specs.Listing.{listing}
 use Rattle.tokens.proofs.ListingLaws.{lines-length, kinds-as-ends}
 use Rattle.record.specs.declared.header.Header.{Header}
 use Rattle.structure.specs.Plan.{Line}
 use Rattle.line.specs.Lines.{lineIn}
 use Rattle.line.specs.Print.{maskAfter, printed}
-use Rattle.pseudo.specs.Listed.{lineAddress, lineMark}
+use Rattle.pseudo.specs.Listed.{lineAddress, lineMark, linePlace, Lists, listsFor, planLists}
 use Rattle.lists.specs.Every.{both-yes}
 use Rattle.record.proofs.AskedLaws.{passed}
 use Rattle.pseudo.specs.Called.{roomNo, roomsOf, sizesOf, over, Stands, Leaves, PlanListed}
 use Rattle.pseudo.specs.Coded.{Holds}
 use Rattle.pseudo.specs.declared.rooms.Sizes.{Sizes}
-use Rattle.pseudo.specs.declared.rooms.Rooms.{Rooms}
 use Rattle.pseudo.specs.declared.call.Answer.the-variants.{Listed, No}
 
-record Roomy (z : Sizes) (r : Rooms) : Type 0 where
-  text : z .text ≤ r .text
-  ends : z .tokens ≤ r .ends
-  kinds : z .tokens ≤ r .kinds
-  addresses : z .lines ≤ r .addresses
-  marks : z .lines ≤ r .marks
-  lines : z .lines ≤ r .lines
+-- each list has room for its part
+record Fit (new b : Lists) : Type 0 where
+  text : length (new .text) ≤ length (b .text)
+  ends : length (new .ends) ≤ length (b .ends)
+  kinds : length (new .kinds) ≤ length (b .kinds)
+  addresses : length (new .addresses) ≤ length (b .addresses)
+  marks : length (new .marks) ≤ length (b .marks)
+  places : length (new .places) ≤ length (b .places)
+  lines : length (new .lines) ≤ length (b .lines)
 
-room-yes : (z : Sizes) (r : Rooms) → roomNo z r ≡ 0 → Roomy z r
+-- of a line for each one planned
+room-yes : (h : Header) (s : List ℕ) (ls : List (List Token)) (p : List Line) (b : Lists) → length ls ≡ length p
+    → roomNo (sizesOf (listsFor h s ls p)) (roomsOf b) ≡ 0 → Fit (listsFor h s ls p) b
 unfolding roomNo
-room-yes z r e =
-    let a = passed 11 _ _ e in
-    let b = passed 12 _ _ (a .1) in
-    let d = passed 13 _ 0 (b .1) in
-    let t = both-yes (leb (z .tokens) (r .ends)) (leb (z .tokens) (r .kinds)) (b .0) in
-    let u = both-yes (leb (z .lines) (r .addresses) && leb (z .lines) (r .marks)) (leb (z .lines) (r .lines)) (d .0) in
-    let v = both-yes (leb (z .lines) (r .addresses)) (leb (z .lines) (r .marks)) (u .0) in
+room-yes h s ls p b each e =
+    let new = listsFor h s ls p in
+    let tokens = length (new .ends) in
+    let count = length (new .addresses) in
+    let x = passed 11 _ _ e in
+    let y = passed 12 _ _ (x .1) in
+    let z = passed 13 _ 0 (y .1) in
+    let t = both-yes (leb tokens (length (b .ends))) (leb tokens (length (b .kinds))) (y .0) in
+    let u = both-yes (leb count (length (b .addresses)) && leb count (length (b .marks)) && leb count (length (b .places))) (leb count (length (b .lines))) (z .0) in
+    let v = both-yes (leb count (length (b .addresses)) && leb count (length (b .marks))) (leb count (length (b .places))) (u .0) in
+    let w = both-yes (leb count (length (b .addresses))) (leb count (length (b .marks))) (v .0) in
     record {
-      text = leb-true _ _ (a .0);
+      text = leb-true _ _ (x .0);
       ends = leb-true _ _ (t .0);
-      kinds = leb-true _ _ (t .1);
-      addresses = leb-true _ _ (v .0);
-      marks = leb-true _ _ (v .1);
-      lines = leb-true _ _ (u .1);
+      kinds = omega (arith, leb-true tokens (length (b .kinds)) (t .1), kinds-as-ends ls);
+      addresses = leb-true _ _ (w .0);
+      marks = omega (arith, leb-true count (length (b .marks)) (w .1), length-map p (lineAddress h s), length-map p lineMark);
+      places = omega (arith, leb-true count (length (b .places)) (v .1), length-map p (lineAddress h s), length-map p linePlace);
+      lines = omega (arith, leb-true count (length (b .lines)) (u .1), length-map p (lineAddress h s), lines-length ls, each);
     }
 
 stands-over : (new old l : List ℕ) → length new ≤ length old → l ≡ put 0 new old → l ≡ over new old
 stands-over new old l h e = e ∙ put-fits 0 new old (omega arith) ∙ rw zero-add
 
 -- a number: nothing was touched
-pub refused : (n : ℕ) (z : Sizes) (t : Listing) (va mk x e k a m l : List ℕ) → (n ≡ 0 → ⊥) → Leaves n z t va mk x x e e k k a a m m l l (No n)
-refused zero z t va mk x e k a m l q = absurd (q refl)
-refused (suc n) z t va mk x e k a m l q = record { answer = refl; text = refl; ends = refl; kinds = refl; addresses = refl; marks = refl; lines = refl }
+pub refused : (n : ℕ) (new b : Lists) → (n ≡ 0 → ⊥) → Leaves n new b b (No n)
+refused zero new b q = absurd (q refl)
+refused (suc n) new b q = record { answer = refl; text = refl; ends = refl; kinds = refl; addresses = refl; marks = refl; places = refl; lines = refl }
 
--- a listing: each list holds its part, of lines that are as many as there are addresses and marks
-pub stored : (n : ℕ) (ls : List (List Token)) (z : Sizes) (va mk x x′ e e′ k k′ a a′ m m′ l l′ : List ℕ)
-    → length va ≡ length ls → length mk ≡ length ls → z ≡ sizesOf (listing ls) va → n ≡ roomNo z (roomsOf x e k a m l) → n ≡ 0
-    → Stands (listing ls) va mk x x′ e e′ k k′ a a′ m m′ l l′ → Leaves n z (listing ls) va mk x x′ e e′ k k′ a a′ m m′ l l′ (Listed z)
-stored n ls z va mk x x′ e e′ k k′ a a′ m m′ l l′ p q s b d w =
-    let y = room-yes z (roomsOf x e k a m l) (sym b ∙ d) in
+-- a listing: each list holds its part
+stored : (n : ℕ) (new b a : Lists) → n ≡ 0 → Fit new b → Stands new b a → Leaves n new b a (Listed (sizesOf new))
+stored n new b a d y w =
     rw d
     (record {
       answer = refl;
-      text = stands-over _ _ _ (omega (arith, y .text, ap (λ (z : Sizes). z .text) s)) (w .text);
-      ends = stands-over _ _ _ (omega (arith, y .ends, ap (λ (z : Sizes). z .tokens) s)) (w .ends);
-      kinds = stands-over _ _ _ (omega (arith, y .kinds, ap (λ (z : Sizes). z .tokens) s, kinds-as-ends ls)) (w .kinds);
-      addresses = stands-over _ _ _ (omega (arith, y .addresses, ap (λ (z : Sizes). z .lines) s)) (w .addresses);
-      marks = stands-over _ _ _ (omega (arith, y .marks, ap (λ (z : Sizes). z .lines) s)) (w .marks);
-      lines = stands-over _ _ _ (omega (arith, y .lines, ap (λ (z : Sizes). z .lines) s, lines-length ls)) (w .lines);
+      text = stands-over _ _ _ (y .text) (w .text);
+      ends = stands-over _ _ _ (y .ends) (w .ends);
+      kinds = stands-over _ _ _ (y .kinds) (w .kinds);
+      addresses = stands-over _ _ _ (y .addresses) (w .addresses);
+      marks = stands-over _ _ _ (y .marks) (w .marks);
+      places = stands-over _ _ _ (y .places) (w .places);
+      lines = stands-over _ _ _ (y .lines) (w .lines);
     })
 
 -- ---- of a plan's lines
@@ -88,49 +94,36 @@ printed-length h s range mask (l ∷ ls) = ap suc (printed-length h s range (mas
 pub codes-length : (h : Header) (s : List ℕ) (range mask : ℕ) (codes : List ℕ) → length codes ≡ length (printed h s range mask (map lineIn codes))
 codes-length h s range mask codes = sym (length-map codes lineIn) ∙ sym (printed-length h s range mask (map lineIn codes))
 
--- the number of lines by the codes, or by the lines' addresses
-pub sizes-of-lines : (h : Header) (s codes : List ℕ) (t : Listing) → sizesOf t codes ≡ sizesOf t (map (lineAddress h s) (map lineIn codes))
-sizes-of-lines h s codes t = rw (length-map (map lineIn codes) (lineAddress h s), length-map codes lineIn)
+-- z is the sizes, and n what the questions of room answer
+module _ (h : Header) (s : List ℕ) (range : ℕ) (codes : List ℕ) (b : Lists) (z : Sizes) (n : ℕ)
+    (q : z ≡ sizesOf (planLists h s range (map lineIn codes))) (p : n ≡ roomNo z (roomsOf b)) where
+  abbrev plan : List Line
+  plan = map lineIn codes
 
-module _ (h : Header) (s : List ℕ) (range : ℕ) (codes : List ℕ) (z : Sizes) (x e k a m l : List ℕ) (n : ℕ) where
-  abbrev lines : List Line
-  lines = map lineIn codes
+  abbrev new : Lists
+  new = planLists h s range plan
 
-  abbrev t : Listing
-  t = listing (printed h s range 0 lines)
+  asked : n ≡ roomNo (sizesOf new) (roomsOf b)
+  asked = p ∙ ap (λ (z : Sizes). roomNo z (roomsOf b)) q
 
-  abbrev va : List ℕ
-  va = map (lineAddress h s) lines
+  fits : n ≡ 0 → Fit new b
+  fits o = room-yes h s (printed h s range 0 plan) plan b (printed-length h s range 0 plan) (sym asked ∙ o)
 
-  sizes-again : z ≡ sizesOf t codes → z ≡ sizesOf t va
-  sizes-again q = q ∙ sizes-of-lines h s codes t
-
-  -- no question of room gets a no: there is room for the addresses and marks
-  pub plan-room : z ≡ sizesOf t codes → n ≡ roomNo z (roomsOf x e k a m l) → n ≡ 0 → (length codes ≤ length a) × (length codes ≤ length m)
-  plan-room q p o =
-      let y = room-yes z (roomsOf x e k a m l) (sym p ∙ o) in
-      let count : z .lines ≡ length codes = ap (λ (z : Sizes). z .lines) q in
-      (omega (arith, y .addresses, count), omega (arith, y .marks, count))
+  -- no question of room gets a no: there is room for the addresses, marks and places
+  pub plan-room : n ≡ 0 → (length codes ≤ length (b .addresses)) × (length codes ≤ length (b .marks)) × (length codes ≤ length (b .places))
+  plan-room o =
+      let count = length-map codes lineIn in (
+        omega (arith, fits o .addresses, length-map plan (lineAddress h s), count),
+        omega (arith, fits o .marks, length-map plan lineMark, count),
+        omega (arith, fits o .places, length-map plan linePlace, count),
+      )
 
   -- no question of room gets a no: the lists are as long as the listing's
-  pub plan-holds : z ≡ sizesOf t codes → n ≡ roomNo z (roomsOf x e k a m l) → n ≡ 0 → Holds t x e k l
-  plan-holds q p o =
-      let y = room-yes z (roomsOf x e k a m l) (sym p ∙ o) in
-      let tokens : z .tokens ≡ length (t .ends) = ap (λ (z : Sizes). z .tokens) q in
-      let count : z .lines ≡ length codes = ap (λ (z : Sizes). z .lines) q in
-      record {
-        text = omega (arith, y .text, ap (λ (z : Sizes). z .text) q);
-        ends = omega (arith, y .ends, tokens);
-        kinds = omega (arith, y .kinds, tokens, kinds-as-ends (printed h s range 0 lines));
-        lines = omega (arith, y .lines, count, lines-length (printed h s range 0 lines), codes-length h s range 0 codes);
-      }
+  pub plan-holds : n ≡ 0 → Holds (listing (printed h s range 0 plan)) (b .text) (b .ends) (b .kinds) (b .lines)
+  plan-holds o = record { text = fits o .text; ends = fits o .ends; kinds = fits o .kinds; lines = fits o .lines }
 
-  pub plan-refused : z ≡ sizesOf t codes → n ≡ roomNo z (roomsOf x e k a m l) → (n ≡ 0 → ⊥) → PlanListed h s range lines x x e e k k a a m m l l (No n)
-  plan-refused q p o = rw (← sizes-again q, ← p) (refused n z t va (map lineMark lines) x e k a m l o)
+  pub plan-refused : (n ≡ 0 → ⊥) → PlanListed h s range plan b b (No n)
+  plan-refused o = rw (← asked) (refused n new b o)
 
-  pub plan-listed : (x′ e′ k′ a′ m′ l′ : List ℕ) → z ≡ sizesOf t codes → n ≡ roomNo z (roomsOf x e k a m l) → n ≡ 0
-      → Stands t va (map lineMark lines) x x′ e e′ k k′ a a′ m m′ l l′ → PlanListed h s range lines x x′ e e′ k k′ a a′ m m′ l l′ (Listed z)
-  plan-listed x′ e′ k′ a′ m′ l′ q p o w =
-      rw (← sizes-again q, ← p)
-      (stored n (printed h s range 0 lines) z va (map lineMark lines) x x′ e e′ k k′ a a′ m m′ l l′
-      (length-map lines (lineAddress h s) ∙ sym (printed-length h s range 0 lines)) (length-map lines lineMark ∙ sym (printed-length h s range 0 lines)) (sizes-again q) p o w)
+  pub plan-listed : (a : Lists) → n ≡ 0 → Stands new b a → PlanListed h s range plan b a (Listed z)
+  plan-listed a o w = rw (← asked, q) (stored n new b a o (fits o) w)

@@ -34,14 +34,13 @@ use Rattle.line.proofs.Longest.{printed-fits}
 use Rattle.line.specs.Lines.{lineIn, lines-again}
 use Rattle.line.specs.Print.{printed}
 use Rattle.record.proofs.AskedLaws.{yes-limits, yes-marks, yes-range}
-use Rattle.tokens.specs.Listing.{listing}
-use Rattle.pseudo.specs.Listed.{lineAddress, recordLines}
+use Rattle.pseudo.specs.Listed.{Lists, planLists, recordLines}
 use Rattle.pseudo.specs.Marks.{Indented}
 use Rattle.pseudo.specs.Called.{Accepted, PlanListed, callNo, Called, sizesOf, sizes, answerFor}
 use Rattle.pseudo.specs.declared.rooms.Sizes.{Sizes}
 use Rattle.pseudo.specs.declared.call.Answer.{Answer}
 use Rattle.pseudo.specs.declared.call.Answer.the-variants.{Listed, No}
-use Rattle.pseudo.proofs.Answers.{refused, sizes-of-lines}
+use Rattle.pseudo.proofs.Answers.{refused}
 
 -- ---- what an accepted record has
 module _ (s : List ℕ) (from to : ℕ) (h : Header) (a : Accepted s from to h) where
@@ -99,17 +98,15 @@ module _ (s : List ℕ) (from to : ℕ) (h : Header) (a : Accepted s from to h) 
     pub plan-indented : Indented codes
     plan-indented = indents codes (rw lines-are (record-shallow h s from to limits in-range))
 
-    pub called : (blocks : List ℕ) (f range : ℕ) (x x′ e e′ k k′ a a′ m m′ l l′ : List ℕ) (r : Answer) → blocks ≡ blockRows h s → f ≡ from → range ≡ firstIn blocks f
-        → PlanListed h s range (map lineIn codes) x x′ e e′ k k′ a a′ m m′ l l′ r → Called s from to x x′ e e′ k k′ a a′ m m′ l l′ r
+    pub called : (blocks : List ℕ) (f range : ℕ) (before after : Lists) (r : Answer) → blocks ≡ blockRows h s → f ≡ from → range ≡ firstIn blocks f
+        → PlanListed h s range (map lineIn codes) before after r → Called s from to before after r
     unfolding recordLines callNo
-    called blocks f range x x′ e e′ k k′ a′ a″ m m′ l l′ r b g c p = rw (a .yes, ← a .header) (rw (lines-are, c, g, b) at p)
+    called blocks f range before after r b g c p = rw (a .yes, ← a .header) (rw (lines-are, c, g, b) at p)
 
     pub sized : (blocks : List ℕ) (f range : ℕ) (z : Sizes) → blocks ≡ blockRows h s → f ≡ from → range ≡ firstIn blocks f
-        → z ≡ sizesOf (listing (printed h s range 0 (map lineIn codes))) codes → z ≡ sizes s from to
+        → z ≡ sizesOf (planLists h s range (map lineIn codes)) → z ≡ sizes s from to
     unfolding recordLines
-    sized blocks f range z b g c q =
-        let p : z ≡ sizesOf (listing (printed h s range 0 (map lineIn codes))) (map (lineAddress h s) (map lineIn codes)) = q ∙ sizes-of-lines h s codes (listing (printed h s range 0 (map lineIn codes))) in
-        rw (← a .header) (rw (lines-are, c, g, b) at p)
+    sized blocks f range z b g c q = rw (← a .header) (rw (lines-are, c, g, b) at q)
 
 -- ---- what the questions answer
 abbrev isYes : Asked → Bool
@@ -145,11 +142,10 @@ sized-no s from to n z q = go (firstNo s from to) q
     go zero q = different (sym (ap isYes q))
     go (suc f) q = ap No (ap numberIn q)
 
-pub called-no : (s : List ℕ) (from to n : ℕ) (x e k a m l : List ℕ) → case.No n ≡ answerOf (firstNo s from to) (headerOf s)
-    → Called s from to x x e e k k a a m m l l (No n)
+pub called-no : (s : List ℕ) (from to n : ℕ) (b : Lists) → case.No n ≡ answerOf (firstNo s from to) (headerOf s) → Called s from to b b (No n)
 unfolding callNo
-called-no s from to n x e k a m l q = go (firstNo s from to) refl q
+called-no s from to n b q = go (firstNo s from to) refl q
   where
-    go : (f : ℕ) → firstNo s from to ≡ f → case.No n ≡ answerOf f (headerOf s) → Called s from to x x e e k k a a m m l l (No n)
+    go : (f : ℕ) → firstNo s from to ≡ f → case.No n ≡ answerOf f (headerOf s) → Called s from to b b (No n)
     go zero p q = different (sym (ap isYes q))
-    go (suc f) p q = rw (p, ap numberIn q) (refused (suc f) _ _ _ _ x e k a m l (λ z. omega arith))
+    go (suc f) p q = rw (p, ap numberIn q) (refused (suc f) _ b (λ z. omega arith))

@@ -5,7 +5,7 @@ use mathlib.Core.Bool.{true}
 use mathlib.Core.List.{List, [], _∷_, map}
 use Prim.Native.Nat.{ℕ, _+_, _*_, _≤_, _<_}
 use native.Mathlib.Omega.{arith}
-use lib.ListN.{length, getD, take, drop}
+use lib.ListN.{length, getD, take, drop, length-map}
 use lib.Seq.{drop-cons}
 use Rattle.lists.specs.Put.{put}
 use Rattle.tokens.specs.Token.{Token}
@@ -24,6 +24,7 @@ use Rattle.line.specs.Fits.{Short, Fits}
 use Rattle.line.specs.Lines.{lineIn}
 use Rattle.line.specs.Print.{lineTokens, maskAfter, printed}
 use Rattle.line.proofs.CodedTurns.{printed-step}
+use Rattle.pseudo.specs.Listed.{lineAddress, Lists, listsOf, listsFor}
 use Rattle.pseudo.specs.Called.{sizesOf, Stands}
 use Rattle.pseudo.specs.Coded.{HoldsLines, Holds, Printed}
 
@@ -38,11 +39,11 @@ tokens-length ls = ends-length 0 (all ls)
 
 -- ---- lines coded in a list where nothing was coded before
 module _ (t s c c′ : List ℕ) (ls : List (List Token)) (a : Started c) (g : CodedLines t s c c′ ls) where
-  pub sizes-are : Fits ls → (plan : List ℕ) → record { text = bytesIn c′; tokens = tokensIn c′; lines = length plan } ≡ sizesOf (listing ls) plan
-  sizes-are f plan =
+  pub sizes-are : Fits ls → (h : Header) (plan : List ℕ) → record { text = bytesIn c′; tokens = tokensIn c′; lines = length plan } ≡ sizesOf (listsFor h s ls (map lineIn plan))
+  sizes-are f h plan =
       let x : bytesIn c′ ≡ length (listing ls .text) = omega (arith, g .bytes, a .no-bytes, f .bytes, text-length ls) in
       let n : tokensIn c′ ≡ length (listing ls .ends) = omega (arith, g .tokens, a .no-tokens, f .tokens, all-count ls, tokens-length ls) in
-      rw (x, n)
+      rw (x, n, length-map (map lineIn plan) (lineAddress h s), length-map plan lineIn)
 
   pub holds-lines : Fits ls → length c′ ≡ length c → HoldsLines t s c′ ls
   holds-lines f e = λ room.
@@ -152,7 +153,8 @@ module _ (h : Header) (s : List ℕ) (range mask i n : ℕ) (cs : List ℕ) (bel
         → Left x₀ e₀ k₀ l₀ ls x′ e′ k′ l′ r (printed h s range m (map lineIn (drop (i + 1) cs)))
     part-turn m x′ e′ k′ l′ r d a b c f w = left-turn v next _ (printed-step h s range cs i mask m below d) x′ e′ k′ l′ r a b c f (rw part-is at w)
 
--- ---- all six lists
-pub stands : (p : Listing) (va mk x x′ e e′ k k′ a a′ m m′ l l′ : List ℕ) → Printed p x x′ e e′ k k′ l l′ → a′ ≡ put 0 va a → m′ ≡ put 0 mk m
-    → Stands p va mk x x′ e e′ k k′ a a′ m m′ l l′
-stands p va mk x x′ e e′ k k′ a a′ m m′ l l′ q y z = record { text = q .text; ends = q .ends; kinds = q .kinds; addresses = y; marks = z; lines = q .lines }
+-- ---- all seven lists
+pub stands : (t : Listing) (va mk pl : List ℕ) (b a : Lists) → Printed t (b .text) (a .text) (b .ends) (a .ends) (b .kinds) (a .kinds) (b .lines) (a .lines)
+    → a .addresses ≡ put 0 va (b .addresses) → a .marks ≡ put 0 mk (b .marks) → a .places ≡ put 0 pl (b .places)
+    → Stands (listsOf (t .text) (t .ends) (t .kinds) va mk pl (t .lines)) b a
+stands t va mk pl b a q y z w = record { text = q .text; ends = q .ends; kinds = q .kinds; addresses = y; marks = z; places = w; lines = q .lines }

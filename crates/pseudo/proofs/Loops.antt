@@ -17,7 +17,7 @@ use Rattle.structure.proofs.LoopsClosed.{loopThen, LoopsBy, ClosesBy, loops-clo
 use Rattle.flow.specs.Rows.{blockRows, edgeRows, shownRows}
 use Rattle.flow.specs.Planned.{recordPlan}
 use Rattle.flow.proofs.Closing.{loop-closes}
-use Rattle.pseudo.specs.Listed.{addressFor, lineAddress, recordAddresses}
+use Rattle.pseudo.specs.Listed.{addressFor, lineAddress, recordLists}
 use Rattle.pseudo.specs.Loops.{BranchesTo, closeThen, LoopsClose}
 
 module _ (s : List ℕ) (from to : ℕ) (yes : firstNo s from to ≡ 0) where
@@ -54,7 +54,7 @@ module _ (s : List ℕ) (from to : ℕ) (yes : firstNo s from to ≡ 0) where
       one-line (l .what) i va (l .place) (l .at) (λ i′. LoopsBy Closes i′ ls) (λ va′. LoopsClose h s va′ ls (map (lineAddress h s) ls)) e (lines-close ls) p
 
   -- no do-line stands at the range's end, so that none has been read before the first
-  pub loops-close : LoopsClose h s 0 (recordPlan h s from to) (recordAddresses h s from to)
+  pub loops-close : LoopsClose h s 0 (recordPlan h s from to) (recordLists h s from to .addresses)
   unfolding recordPlan
   loops-close =
       lines-close (recordPlan h s from to) to 0 (λ l. absurd (omega arith))

@@ -1,4 +1,4 @@
--- The address and the mark of a line are what its code tells, and a loop stores those of all lines.
+-- The address, the mark and the place of a line are what its code tells, and a loop stores those of all lines.
 -- By what the line is, a number below 9; what is left to store from here on is what there was from the start.
 use mathlib.Core.Path.{_≡_, refl, sym, _∙_}
 use mathlib.Core.List.{List, map}
@@ -16,7 +16,7 @@ use Rattle.record.specs.Body.{addressAt}
 use Rattle.structure.specs.Plan.{Line}
 use Rattle.structure.specs.Reads.{whatIn, instructionIn, placeIn, indentIn}
 use Rattle.line.specs.Lines.{whatAt, lineIn}
-use Rattle.pseudo.specs.Listed.{addressFor, lineAddress, markFor, lineMark}
+use Rattle.pseudo.specs.Listed.{addressFor, lineAddress, markFor, lineMark, linePlace}
 
 module _ (h : Header) (s : List ℕ) (k i : ℕ) where
   start-of : (w : ℕ) → w < 2 → addressFor h s (whatAt w) k i ≡ startAt (startsOf h s) k
@@ -70,6 +70,10 @@ module _ (code w d : ℕ) (e : w ≡ whatIn code) (f : d ≡ indentIn code) wher
   pub mark-insn : (w ≡ 5 → ⊥) → d + 256 ≡ lineMark (lineIn code)
   unfolding lineIn
   mark-insn o = rw f (sym (mark-of (indentIn code) (whatIn code) (rw e at o)))
+
+pub place-is : (code k : ℕ) → k ≡ placeIn code → k ≡ linePlace (lineIn code)
+unfolding lineIn
+place-is code k e = e
 
 -- a loop over the codes
 module _ (f : Line → ℕ) where

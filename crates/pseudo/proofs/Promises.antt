@@ -14,14 +14,14 @@ use Rattle.record.specs.Layout.{lengthOk}
 use Rattle.record.specs.Asked.{ask, orElse, sizesNo, marksAsked, startsAsked, edgeKindsAsked, bodiesAsked, branchesAsked, atlasAsked, spansAsked, blocksNo, contentsNo, rangeNo, firstNo}
 use Rattle.record.proofs.AskedLaws.{later}
 use Rattle.tokens.specs.Token.{Token}
-use Rattle.tokens.specs.Listing.{join, Listing, listing}
-use Rattle.pseudo.specs.Listed.{lineAddress, recordLines, recordListing, recordAddresses, recordMarks}
+use Rattle.tokens.specs.Listing.{join, listing}
+use Rattle.pseudo.specs.Listed.{lineAddress, Lists, listsOf, recordLines, recordLists}
 use Rattle.flow.specs.Planned.{recordPlan}
 use Rattle.line.specs.Shown.{ConditionsShown, CallsShown}
 use Rattle.pseudo.specs.Called.{numberOf, roomNo, answerFor, over, Leaves, roomsOf, sizes, callNo, Called}
 use Rattle.pseudo.specs.Demand.{LinesDemand3}
 use Rattle.pseudo.specs.Loops.{LoopsClose}
-use Rattle.pseudo.specs.Promise.{Lists, listsOf, valuesOf, held, Promise}
+use Rattle.pseudo.specs.Promise.{valuesOf, held, Promise}
 use Rattle.pseudo.specs.declared.rooms.Sizes.{Sizes}
 use Rattle.pseudo.specs.declared.rooms.Rooms.{Rooms}
 use Rattle.pseudo.specs.declared.call.Answer.{Answer}
@@ -62,7 +62,7 @@ room-within : (z : Sizes) (r : Rooms) → roomNo z r ≤ 15
 unfolding roomNo
 room-within z r =
     let tokens = leb (z .tokens) (r .ends) && leb (z .tokens) (r .kinds) in
-    let lines = leb (z .lines) (r .addresses) && leb (z .lines) (r .marks) && leb (z .lines) (r .lines) in
+    let lines = leb (z .lines) (r .addresses) && leb (z .lines) (r .marks) && leb (z .lines) (r .places) && leb (z .lines) (r .lines) in
     ask-kept (λ (n : ℕ). n ≤ 15) 12 (leb (z .text) (r .text)) (ask 13 tokens (ask 14 lines 0)) (omega arith)
     (ask-kept (λ (n : ℕ). n ≤ 15) 13 tokens (ask 14 lines 0) (omega arith) (ask-kept (λ (n : ℕ). n ≤ 15) 14 lines 0 (omega arith) (omega arith)))
 
@@ -83,62 +83,59 @@ read-back : (n : ℕ) (new old l : List ℕ) → length new ≡ n → l ≡ over
 read-back n new old l e p =
     ap (take n) p ∙ take-append-le n new (drop (length new) old) (omega arith) ∙ take-all n new (omega arith)
 
-same : {x x′ e e′ k k′ a a′ m m′ l l′ : List ℕ} → x′ ≡ x → e′ ≡ e → k′ ≡ k → a′ ≡ a → m′ ≡ m → l′ ≡ l → listsOf x′ e′ k′ a′ m′ l′ ≡ listsOf x e k a m l
-same p q r s t u = rw (p, q, r, s, t, u)
+same : {x x′ e e′ k k′ a a′ m m′ p p′ l l′ : List ℕ} → x′ ≡ x → e′ ≡ e → k′ ≡ k → a′ ≡ a → m′ ≡ m → p′ ≡ p → l′ ≡ l → listsOf x′ e′ k′ a′ m′ p′ l′ ≡ listsOf x e k a m p l
+same p q r s t u v = rw (p, q, r, s, t, u, v)
 
 -- a line of tokens for each address
-lines-each : (s : List ℕ) (from to : ℕ) → length (recordAddresses (headerOf s) s from to) ≡ length (recordLines (headerOf s) s from to)
+lines-each : (s : List ℕ) (from to : ℕ) → length (recordLists (headerOf s) s from to .addresses) ≡ length (recordLines (headerOf s) s from to)
 unfolding recordLines
 lines-each s from to =
     let h = headerOf s in
     length-map (recordPlan h s from to) (lineAddress h s) ∙ sym (printed-length h s _ 0 (recordPlan h s from to))
 
-module _ (s : List ℕ) (from to : ℕ) (b a : Lists) (r : Answer)
-    (c : Called s from to (b .text) (a .text) (b .ends) (a .ends) (b .kinds) (a .kinds) (b .addresses) (a .addresses) (b .marks) (a .marks) (b .lines) (a .lines) r) where
+module _ (s : List ℕ) (from to : ℕ) (b a : Lists) (r : Answer) (c : Called s from to b a r) where
   abbrev rooms : Rooms
-  rooms = roomsOf (b .text) (b .ends) (b .kinds) (b .addresses) (b .marks) (b .lines)
+  rooms = roomsOf b
 
   abbrev ls : List (List Token)
   ls = recordLines (headerOf s) s from to
 
-  abbrev t : Listing
-  t = recordListing (headerOf s) s from to
-
-  abbrev va : List ℕ
-  va = recordAddresses (headerOf s) s from to
-
-  abbrev mk : List ℕ
-  mk = recordMarks (headerOf s) s from to
+  abbrev new : Lists
+  new = recordLists (headerOf s) s from to
 
   number : numberOf r ≡ callNo s from to rooms
   number = ap numberOf (c .answer) ∙ number-is (sizes s from to) (callNo s from to rooms)
 
   abbrev Left : ℕ → Type 0
-  Left n = Leaves n (sizes s from to) t va mk (b .text) (a .text) (b .ends) (a .ends) (b .kinds) (a .kinds) (b .addresses) (a .addresses) (b .marks) (a .marks) (b .lines) (a .lines) r
+  Left n = Leaves n new b a r
 
   refused : (n : ℕ) → Left n → (n ≡ 0 → ⊥) → (valuesOf r ≡ record { text = 0; tokens = 0; lines = 0 }) × (a ≡ b)
   refused zero p o = absurd (o refl)
-  refused (suc n) p o = (ap valuesOf (p .answer), same (p .text) (p .ends) (p .kinds) (p .addresses) (p .marks) (p .lines))
+  refused (suc n) p o = (ap valuesOf (p .answer), same (p .text) (p .ends) (p .kinds) (p .addresses) (p .marks) (p .places) (p .lines))
 
   listed : (n : ℕ) → Left n → n ≡ 0 → firstNo s from to ≡ 0
-      → LinesDemand3 s from to (take (valuesOf r .lines) (a .addresses)) (take (valuesOf r .lines) (a .marks)) (take (valuesOf r .lines) (a .lines))
+      → LinesDemand3 s from to (take (valuesOf r .lines) (a .addresses)) (take (valuesOf r .lines) (a .marks)) (take (valuesOf r .lines) (a .places))
+      (take (valuesOf r .lines) (a .lines))
   listed (suc n) p z q = absurd (omega arith)
   listed zero p z q =
       let d = listing-demand3 s from to q in
-      let size : valuesOf r .lines ≡ length va = ap (λ (g : Answer). valuesOf g .lines) (p .answer) in
+      let n = length (new .addresses) in
+      let size : valuesOf r .lines ≡ n = ap (λ (g : Answer). valuesOf g .lines) (p .answer) in
       rw (
         size,
-        read-back (length va) va (b .addresses) (a .addresses) refl (p .addresses),
-        read-back (length va) mk (b .marks) (a .marks) (d .marked) (p .marks),
-        read-back (length va) (t .lines) (b .lines) (a .lines) (d .ended) (p .lines),
+        read-back n (new .addresses) (b .addresses) (a .addresses) refl (p .addresses),
+        read-back n (new .marks) (b .marks) (a .marks) (d .marked) (p .marks),
+        read-back n (new .places) (b .places) (a .places) (d .placed-lines) (p .places),
+        read-back n (new .lines) (b .lines) (a .lines) (d .ended) (p .lines),
       ) d
 
   loops-held : (n : ℕ) → Left n → n ≡ 0 → firstNo s from to ≡ 0
       → LoopsClose (headerOf s) s 0 (recordPlan (headerOf s) s from to) (take (valuesOf r .lines) (a .addresses))
   loops-held (suc n) p z q = absurd (omega arith)
   loops-held zero p z q =
-      let size : valuesOf r .lines ≡ length va = ap (λ (g : Answer). valuesOf g .lines) (p .answer) in
-      rw (size, read-back (length va) va (b .addresses) (a .addresses) refl (p .addresses)) (loops-close s from to q)
+      let n = length (new .addresses) in
+      let size : valuesOf r .lines ≡ n = ap (λ (g : Answer). valuesOf g .lines) (p .answer) in
+      rw (size, read-back n (new .addresses) (b .addresses) (a .addresses) refl (p .addresses)) (loops-close s from to q)
 
   -- the lists hold the lines of the defined listing
   lines-held : (n : ℕ) → Left n → n ≡ 0 → held a r ≡ map join ls
@@ -147,7 +144,7 @@ module _ (s : List ℕ) (from to : ℕ) (b a : Lists) (r : Answer)
   lines-held zero p z =
       let size : valuesOf r .lines ≡ length ls = ap (λ (g : Answer). valuesOf g .lines) (p .answer) ∙ lines-each s from to in
       rw (size, p .text, p .ends, p .kinds, p .lines)
-      (lines-back ls (drop (length (t .text)) (b .text)) (drop (length (t .ends)) (b .ends)) (drop (length (t .kinds)) (b .kinds)) (drop (length (t .lines)) (b .lines)))
+      (lines-back ls (drop (length (new .text)) (b .text)) (drop (length (new .ends)) (b .ends)) (drop (length (new .kinds)) (b .kinds)) (drop (length (new .lines)) (b .lines)))
 
   relations-held : held a r ≡ map join ls → ConditionsShown (headerOf s) s (recordPlan (headerOf s) s from to) (held a r)
   unfolding recordLines

@@ -1,10 +1,10 @@
--- The listing of a range of a record's blocks: six lists.
+-- The listing of a range of a record's blocks: seven lists.
 use Prim.Native.Nat.{ℕ, _+_}
 use mathlib.Core.Bool.{_||_}
 use mathlib.Core.List.{List, map}
 use Rattle.lists.specs.Choice.{pick}
 use Rattle.tokens.specs.Token.{Token}
-use Rattle.tokens.specs.Listing.{Listing, listing}
+use Rattle.tokens.specs.Listing.{listing}
 use Rattle.record.specs.declared.header.Header.{Header}
 use Rattle.record.specs.Layout.{startsOf, addressesOf}
 use Rattle.record.specs.Blocks.{startAt}
@@ -32,17 +32,39 @@ markFor w d = pick (is w close-line) d (d + 256)
 abbrev pub lineMark : Line → ℕ
 lineMark l = markFor (l .what) (l .indent)
 
+-- #107: "Every line now carries the place of its block: a label, an instruction or an opening line that of the block it was written for, a
+-- closing brace that of the block whose branch opened it, a while-line that of the loop's last block."
+abbrev pub linePlace : Line → ℕ
+linePlace l = l .place
+
+-- "Lists filled: text; token ends (u32) beside kinds ..; line addresses .. beside u16 marks .. and u32 token ends."
+-- #107, of the places: "It is a further u16 list beside the line marks."
+pub record Lists : Type 0 where
+  pub text : List ℕ
+  pub ends : List ℕ
+  pub kinds : List ℕ
+  pub addresses : List ℕ
+  pub marks : List ℕ
+  pub places : List ℕ
+  pub lines : List ℕ
+
+abbrev pub listsOf : (text ends kinds addresses marks places lines : List ℕ) → Lists
+listsOf x e k a m p l = record { text = x; ends = e; kinds = k; addresses = a; marks = m; places = p; lines = l }
+
+-- the lists of a plan's lines, from the tokens of each
+abbrev pub listsFor : Header → List ℕ → List (List Token) → List Line → Lists
+listsFor h s ls p =
+    let t = listing ls in
+    listsOf (t .text) (t .ends) (t .kinds) (map (lineAddress h s) p) (map lineMark p) (map linePlace p) (t .lines)
+
+-- the lists of a plan's lines, in a range whose first instruction is `range`
+abbrev pub planLists : Header → List ℕ → ℕ → List Line → Lists
+planLists h s range p = listsFor h s (printed h s range 0 p) p
+
 module _ (h : Header) (s : List ℕ) (from to : ℕ) where
   -- the tokens of each line: "Written registers and pushes start empty at each call of the port"
   unfoldable pub recordLines : List (List Token)
   recordLines = printed h s (firstIn (blockRows h s) from) 0 (recordPlan h s from to)
 
-  -- text, token ends, token kinds and the lines' token ends
-  abbrev pub recordListing : Listing
-  recordListing = listing recordLines
-
-  abbrev pub recordAddresses : List ℕ
-  recordAddresses = map (lineAddress h s) (recordPlan h s from to)
-
-  abbrev pub recordMarks : List ℕ
-  recordMarks = map lineMark (recordPlan h s from to)
+  abbrev pub recordLists : Lists
+  recordLists = listsFor h s recordLines (recordPlan h s from to)

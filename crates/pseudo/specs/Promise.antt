@@ -8,24 +8,13 @@ use Rattle.tokens.specs.Lines.{linesIn}
 use Rattle.record.specs.Header.{headerOf}
 use Rattle.flow.specs.Planned.{recordPlan}
 use Rattle.line.specs.Shown.{ConditionsShown, CallsShown}
+use Rattle.pseudo.specs.Listed.{Lists}
 use Rattle.pseudo.specs.Called.{numberOf, Called}
 use Rattle.pseudo.specs.Demand.{LinesDemand3}
 use Rattle.pseudo.specs.Loops.{LoopsClose}
 use Rattle.pseudo.specs.declared.rooms.Sizes.{Sizes}
 use Rattle.pseudo.specs.declared.call.Answer.{Answer}
 use Rattle.pseudo.specs.declared.call.Answer.the-variants.{Listed, No}
-
--- "Lists filled: text; token ends (u32) beside kinds ..; line addresses .. beside u16 marks .. and u32 token ends."
-pub record Lists : Type 0 where
-  pub text : List ℕ
-  pub ends : List ℕ
-  pub kinds : List ℕ
-  pub addresses : List ℕ
-  pub marks : List ℕ
-  pub lines : List ℕ
-
-abbrev pub listsOf : (text ends kinds addresses marks lines : List ℕ) → Lists
-listsOf x e k a m l = record { text = x; ends = e; kinds = k; addresses = a; marks = m; lines = l }
 
 -- "A listing's answer is 0 and the sizes"; "A number comes with all sizes zero"
 abbrev pub valuesOf : Answer → Sizes
@@ -39,8 +28,7 @@ held a r = linesIn (a .text) (a .ends) (a .kinds) (a .lines) (valuesOf r .lines)
 pub record Promise (s : List ℕ) (from to : ℕ) (b a : Lists) (r : Answer) : Type 0 where
   -- the number is that of the first question that gets a no, the sizes are the defined listing's, and each list begins with it and is
   -- unchanged past it
-  pub called : Called s from to
-      (b .text) (a .text) (b .ends) (a .ends) (b .kinds) (a .kinds) (b .addresses) (a .addresses) (b .marks) (a .marks) (b .lines) (a .lines) r
+  pub called : Called s from to b a r
   -- "each call on arbitrary bytes finishes with a listing or with one of" the numbers, fifteen with #108
   pub number : numberOf r ≤ 15
   -- "A number comes with all sizes zero, and every lent list is then unchanged."
@@ -54,4 +42,5 @@ pub record Promise (s : List ℕ) (from to : ℕ) (b a : Lists) (r : Answer) : T
       → LoopsClose (headerOf s) s 0 (recordPlan (headerOf s) s from to) (take (valuesOf r .lines) (a .addresses))
   -- demand 3, of the lines that the lists hold
   pub demand3 : numberOf r ≡ 0
-      → LinesDemand3 s from to (take (valuesOf r .lines) (a .addresses)) (take (valuesOf r .lines) (a .marks)) (take (valuesOf r .lines) (a .lines))
+      → LinesDemand3 s from to (take (valuesOf r .lines) (a .addresses)) (take (valuesOf r .lines) (a .marks)) (take (valuesOf r .lines) (a .places))
+      (take (valuesOf r .lines) (a .lines))

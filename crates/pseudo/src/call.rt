@@ -28,9 +28,10 @@ ghost use Rattle.line.specs.Codes.{rowBytes};
 ghost use Rattle.line.specs.Lines.{lineIn};
 ghost use Rattle.line.specs.Print.{printed};
 ghost use Rattle.line.specs.Fits.{Fits};
+ghost use Rattle.pseudo.specs.Listed.{listsOf};
 ghost use Rattle.pseudo.specs.Marks.{Indented};
 ghost use Rattle.pseudo.specs.Called.{PlanListed, Accepted, Called};
-ghost use Rattle.pseudo.specs.Promise.{listsOf, Promise};
+ghost use Rattle.pseudo.specs.Promise.{Promise};
 
 // A listing with its sizes, or the number of the question that got a no.
 pub enum Answer {
@@ -45,6 +46,7 @@ fn list_coded(
     kinds: &mut [u8],
     addresses: &mut [u64],
     marks: &mut [u16],
+    places: &mut [u16],
     lines: &mut [u32],
     codes: &mut [u64],
     tables: &[u8],
@@ -61,8 +63,8 @@ fn list_coded(
     requires { ⌜ Fits (printed h (now rec) range 0 (map lineIn (now plan))) ⌝ }
     requires { ⌜ Indented (now plan) ⌝ }
     ensures { λ r. ⌜ PlanListed h (now (rec .entry)) range (map lineIn (now (plan .entry)))
-        (now (text .entry)) (now (text .exit)) (now (ends .entry)) (now (ends .exit)) (now (kinds .entry)) (now (kinds .exit))
-        (now (addresses .entry)) (now (addresses .exit)) (now (marks .entry)) (now (marks .exit)) (now (lines .entry)) (now (lines .exit)) r ⌝ }
+        (listsOf (now (text .entry)) (now (ends .entry)) (now (kinds .entry)) (now (addresses .entry)) (now (marks .entry)) (now (places .entry)) (now (lines .entry)))
+        (listsOf (now (text .exit)) (now (ends .exit)) (now (kinds .exit)) (now (addresses .exit)) (now (marks .exit)) (now (places .exit)) (now (lines .exit))) r ⌝ }
 {
     let sizes = code_plan(codes, tables, rec, h, rows, blocks, range, plan);
     let rooms = Rooms {
@@ -71,6 +73,7 @@ fn list_coded(
         kinds: kinds.len(),
         addresses: addresses.len(),
         marks: marks.len(),
+        places: places.len(),
         lines: lines.len(),
     };
     let no = room_no(sizes, rooms);
@@ -91,7 +94,7 @@ fn list_coded(
         range,
         plan,
     );
-    put_marks(addresses, marks, rec, h, plan);
+    put_marks(addresses, marks, places, rec, h, plan);
     Answer::Listed(sizes)
 }
 
@@ -102,6 +105,7 @@ fn list_plan(
     kinds: &mut [u8],
     addresses: &mut [u64],
     marks: &mut [u16],
+    places: &mut [u16],
     lines: &mut [u32],
     tables: &[u8],
     rec: &[u8],
@@ -117,8 +121,8 @@ fn list_plan(
     requires { ⌜ Fits (printed h (now rec) range 0 (map lineIn (now plan))) ⌝ }
     requires { ⌜ Indented (now plan) ⌝ }
     ensures { λ r. ⌜ PlanListed h (now (rec .entry)) range (map lineIn (now (plan .entry)))
-        (now (text .entry)) (now (text .exit)) (now (ends .entry)) (now (ends .exit)) (now (kinds .entry)) (now (kinds .exit))
-        (now (addresses .entry)) (now (addresses .exit)) (now (marks .entry)) (now (marks .exit)) (now (lines .entry)) (now (lines .exit)) r ⌝ }
+        (listsOf (now (text .entry)) (now (ends .entry)) (now (kinds .entry)) (now (addresses .entry)) (now (marks .entry)) (now (places .entry)) (now (lines .entry)))
+        (listsOf (now (text .exit)) (now (ends .exit)) (now (kinds .exit)) (now (addresses .exit)) (now (marks .exit)) (now (places .exit)) (now (lines .exit))) r ⌝ }
 {
     if plan.len() <= 200 {
         let mut codes = [0u64; 1536];
@@ -128,6 +132,7 @@ fn list_plan(
             kinds,
             addresses,
             marks,
+            places,
             lines,
             &mut codes,
             tables,
@@ -147,6 +152,7 @@ fn list_plan(
             kinds,
             addresses,
             marks,
+            places,
             lines,
             &mut codes,
             tables,
@@ -165,6 +171,7 @@ fn list_plan(
         kinds,
         addresses,
         marks,
+        places,
         lines,
         &mut codes,
         tables,
@@ -184,6 +191,7 @@ fn list_planned(
     kinds: &mut [u8],
     addresses: &mut [u64],
     marks: &mut [u16],
+    places: &mut [u16],
     lines: &mut [u32],
     made: &mut [u64],
     tables: &[u8],
@@ -200,8 +208,8 @@ fn list_planned(
     requires { ⌜ Accepted (now rec) from to h ⌝ }
     requires { ⌜ h .instructions + 2 * h .blocks ≤ length (now made) ⌝ }
     ensures { λ r. ⌜ Called (now (rec .entry)) from to
-        (now (text .entry)) (now (text .exit)) (now (ends .entry)) (now (ends .exit)) (now (kinds .entry)) (now (kinds .exit))
-        (now (addresses .entry)) (now (addresses .exit)) (now (marks .entry)) (now (marks .exit)) (now (lines .entry)) (now (lines .exit)) r ⌝ }
+        (listsOf (now (text .entry)) (now (ends .entry)) (now (kinds .entry)) (now (addresses .entry)) (now (marks .entry)) (now (places .entry)) (now (lines .entry)))
+        (listsOf (now (text .exit)) (now (ends .exit)) (now (kinds .exit)) (now (addresses .exit)) (now (marks .exit)) (now (places .exit)) (now (lines .exit))) r ⌝ }
 {
     let n = plan_record(isa_of(tables), rec, h, blocks, from, to, made);
     let plan = part_u64(made, n);
@@ -212,6 +220,7 @@ fn list_planned(
         kinds,
         addresses,
         marks,
+        places,
         lines,
         tables,
         rec,
@@ -230,6 +239,7 @@ fn list_range(
     kinds: &mut [u8],
     addresses: &mut [u64],
     marks: &mut [u16],
+    places: &mut [u16],
     lines: &mut [u32],
     block: &mut [u16],
     made: &mut [u64],
@@ -242,8 +252,8 @@ fn list_range(
     requires { ⌜ 8 * h .blocks ≤ length (now block) ⌝ }
     requires { ⌜ h .instructions + 2 * h .blocks ≤ length (now made) ⌝ }
     ensures { λ r. ⌜ Called (now (rec .entry)) from to
-        (now (text .entry)) (now (text .exit)) (now (ends .entry)) (now (ends .exit)) (now (kinds .entry)) (now (kinds .exit))
-        (now (addresses .entry)) (now (addresses .exit)) (now (marks .entry)) (now (marks .exit)) (now (lines .entry)) (now (lines .exit)) r ⌝ }
+        (listsOf (now (text .entry)) (now (ends .entry)) (now (kinds .entry)) (now (addresses .entry)) (now (marks .entry)) (now (places .entry)) (now (lines .entry)))
+        (listsOf (now (text .exit)) (now (ends .exit)) (now (kinds .exit)) (now (addresses .exit)) (now (marks .exit)) (now (places .exit)) (now (lines .exit))) r ⌝ }
 {
     let table = tables();
     let tables: &[u8] = &table;
@@ -257,6 +267,7 @@ fn list_range(
         kinds,
         addresses,
         marks,
+        places,
         lines,
         made,
         tables,
@@ -277,6 +288,7 @@ fn list_accepted(
     kinds: &mut [u8],
     addresses: &mut [u64],
     marks: &mut [u16],
+    places: &mut [u16],
     lines: &mut [u32],
     rec: &[u8],
     h: Header,
@@ -285,8 +297,8 @@ fn list_accepted(
 ) -> Answer
     requires { ⌜ Accepted (now rec) from to h ⌝ }
     ensures { λ r. ⌜ Called (now (rec .entry)) from to
-        (now (text .entry)) (now (text .exit)) (now (ends .entry)) (now (ends .exit)) (now (kinds .entry)) (now (kinds .exit))
-        (now (addresses .entry)) (now (addresses .exit)) (now (marks .entry)) (now (marks .exit)) (now (lines .entry)) (now (lines .exit)) r ⌝ }
+        (listsOf (now (text .entry)) (now (ends .entry)) (now (kinds .entry)) (now (addresses .entry)) (now (marks .entry)) (now (places .entry)) (now (lines .entry)))
+        (listsOf (now (text .exit)) (now (ends .exit)) (now (kinds .exit)) (now (addresses .exit)) (now (marks .exit)) (now (places .exit)) (now (lines .exit))) r ⌝ }
 {
     if (h.instructions <= 288) & (h.blocks <= 60) {
         let mut block = [0u16; 480];
@@ -297,6 +309,7 @@ fn list_accepted(
             kinds,
             addresses,
             marks,
+            places,
             lines,
             &mut block,
             &mut made,
@@ -314,6 +327,7 @@ fn list_accepted(
         kinds,
         addresses,
         marks,
+        places,
         lines,
         &mut block,
         &mut made,
@@ -334,11 +348,12 @@ pub fn list(
     kinds: &mut [u8],
     addresses: &mut [u64],
     marks: &mut [u16],
+    places: &mut [u16],
     lines: &mut [u32],
 ) -> Answer
     ensures { λ r. ⌜ Promise (now (rec .entry)) from to
-        (listsOf (now (text .entry)) (now (ends .entry)) (now (kinds .entry)) (now (addresses .entry)) (now (marks .entry)) (now (lines .entry)))
-        (listsOf (now (text .exit)) (now (ends .exit)) (now (kinds .exit)) (now (addresses .exit)) (now (marks .exit)) (now (lines .exit))) r ⌝ }
+        (listsOf (now (text .entry)) (now (ends .entry)) (now (kinds .entry)) (now (addresses .entry)) (now (marks .entry)) (now (places .entry)) (now (lines .entry)))
+        (listsOf (now (text .exit)) (now (ends .exit)) (now (kinds .exit)) (now (addresses .exit)) (now (marks .exit)) (now (places .exit)) (now (lines .exit))) r ⌝ }
 {
     match record(rec, from, to) {
         Asked::No(n) => Answer::No(n),
@@ -348,6 +363,7 @@ pub fn list(
             kinds,
             addresses,
             marks,
+            places,
             lines,
             rec,
             h,

@@ -11,7 +11,7 @@ ghost use Rattle.line.specs.Codes.{rowBytes};
 ghost use Rattle.line.specs.Fits.{Fits};
 ghost use Rattle.line.specs.Lines.{lineIn};
 ghost use Rattle.line.specs.Print.{printed};
-ghost use Rattle.tokens.specs.Listing.{listing};
+ghost use Rattle.pseudo.specs.Listed.{planLists};
 ghost use Rattle.pseudo.specs.Called.{sizesOf};
 ghost use Rattle.pseudo.specs.Coded.{HoldsLines};
 
@@ -30,7 +30,7 @@ pub fn code_plan(
     requires { ⌜ now rows ≡ rowBytes ⌝ }
     requires { ⌜ now blocks ≡ blockRows h (now rec) ⌝ }
     requires { ⌜ Fits (printed h (now rec) range 0 (map lineIn (now plan))) ⌝ }
-    ensures sizes { λ r. ⌜ r ≡ sizesOf (listing (printed h (now (rec .entry)) range 0 (map lineIn (now (plan .entry))))) (now (plan .entry)) ⌝ }
+    ensures sizes { λ r. ⌜ r ≡ sizesOf (planLists h (now (rec .entry)) range (map lineIn (now (plan .entry)))) ⌝ }
     ensures codes { λ _. ⌜ HoldsLines (now (tables .entry)) (now (rec .entry)) (now (codes .exit)) (printed h (now (rec .entry)) range 0 (map lineIn (now (plan .entry)))) ⌝ }
 {
     start(codes);

@@ -1,4 +1,4 @@
-// The lines' addresses and marks, each from its line's code.
+// The lines' addresses, marks and places, each from its line's code.
 use lists::reads::from;
 use record::blocks::Place;
 use record::blocks::start_at;
@@ -16,7 +16,7 @@ ghost use lib.ListN.{length};
 ghost use Rattle.lists.specs.Put.{put};
 ghost use Rattle.structure.specs.Reads.{indentIn};
 ghost use Rattle.line.specs.Lines.{lineIn};
-ghost use Rattle.pseudo.specs.Listed.{lineAddress, lineMark};
+ghost use Rattle.pseudo.specs.Listed.{lineAddress, lineMark, linePlace};
 ghost use Rattle.pseudo.specs.Marks.{Indented};
 
 // A label's and a do-line's is its block's start, a lone brace has none, every other line has its instruction's.
@@ -45,18 +45,27 @@ fn line_mark(code: u64) -> u16
     indent + 256
 }
 
-// The address and the mark of each line, into lists that have room for them.
-pub fn put_marks(addresses: &mut [u64], marks: &mut [u16], rec: &[u8], h: Header, codes: &[u64])
+// The address, the mark and the place of each line, into lists that have room for them.
+pub fn put_marks(
+    addresses: &mut [u64],
+    marks: &mut [u16],
+    places: &mut [u16],
+    rec: &[u8],
+    h: Header,
+    codes: &[u64],
+)
     requires { ⌜ Indented (now codes) ⌝ }
-    requires { ⌜ (length (now codes) ≤ length (now addresses)) × (length (now codes) ≤ length (now marks)) ⌝ }
+    requires { ⌜ (length (now codes) ≤ length (now addresses)) × (length (now codes) ≤ length (now marks)) × (length (now codes) ≤ length (now places)) ⌝ }
     ensures addresses { λ _. ⌜ now (addresses .exit) ≡ put 0 (map (lineAddress h (now (rec .entry))) (map lineIn (now (codes .entry)))) (now (addresses .entry)) ⌝ }
     ensures marks { λ _. ⌜ now (marks .exit) ≡ put 0 (map lineMark (map lineIn (now (codes .entry)))) (now (marks .entry)) ⌝ }
+    ensures places { λ _. ⌜ now (places .exit) ≡ put 0 (map linePlace (map lineIn (now (codes .entry)))) (now (places .entry)) ⌝ }
 {
     let mut i = 0;
     while i < codes.len() {
         let code = codes[i];
         addresses[i] = line_address(rec, h, code);
         marks[i] = line_mark(code);
+        places[i] = place_of_line(code);
         i += 1;
     }
 }

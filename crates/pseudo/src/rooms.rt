@@ -8,13 +8,14 @@ pub struct Sizes {
     pub lines: usize,
 }
 
-// The lengths of the six lists.
+// The lengths of the seven lists.
 pub struct Rooms {
     pub text: usize,
     pub ends: usize,
     pub kinds: usize,
     pub addresses: usize,
     pub marks: usize,
+    pub places: usize,
     pub lines: usize,
 }
 
@@ -26,6 +27,7 @@ pub fn room_no(sizes: Sizes, rooms: Rooms) -> u8
         if (sizes.tokens <= rooms.ends) & (sizes.tokens <= rooms.kinds) {
             if (sizes.lines <= rooms.addresses)
                 & (sizes.lines <= rooms.marks)
+                & (sizes.lines <= rooms.places)
                 & (sizes.lines <= rooms.lines)
             {
                 return 0;

@@ -24,7 +24,7 @@ ghost use Rattle.line.specs.Fits.{Fits};
 ghost use Rattle.line.specs.Codes.{rowBytes};
 ghost use Rattle.line.specs.Lines.{lineIn};
 ghost use Rattle.line.specs.Print.{printed};
-ghost use Rattle.tokens.specs.Listing.{listing};
+ghost use Rattle.pseudo.specs.Listed.{planLists};
 ghost use Rattle.pseudo.specs.Called.{Accepted, sizesOf, sizes, answerFor};
 
 // How much a plan's lines have: their codes tell, in a list with room for none of them.
@@ -41,7 +41,7 @@ fn size_plan(
     requires { ⌜ now rows ≡ rowBytes ⌝ }
     requires { ⌜ now blocks ≡ blockRows h (now rec) ⌝ }
     requires { ⌜ Fits (printed h (now rec) range 0 (map lineIn (now plan))) ⌝ }
-    ensures { λ r. ⌜ r ≡ sizesOf (listing (printed h (now (rec .entry)) range 0 (map lineIn (now (plan .entry))))) (now (plan .entry)) ⌝ }
+    ensures { λ r. ⌜ r ≡ sizesOf (planLists h (now (rec .entry)) range (map lineIn (now (plan .entry)))) ⌝ }
 {
     let mut codes = [0u64; 5];
     code_plan(&mut codes, tables, rec, h, rows, blocks, range, plan)

@@ -78,16 +78,16 @@ fn field(case: &[u8], at: usize) -> usize
 fn answers(case: &[u8], answer: Answer) -> bool {
     match answer {
         Answer::Listed(z) => {
-            (field(case, 28) == 0)
-                & (field(case, 32) == z.text)
-                & (field(case, 36) == z.tokens)
-                & (field(case, 40) == z.lines)
+            (field(case, 32) == 0)
+                & (field(case, 36) == z.text)
+                & (field(case, 40) == z.tokens)
+                & (field(case, 44) == z.lines)
         }
         Answer::No(n) => {
-            (field(case, 28) == n as usize)
-                & (field(case, 32) == 0)
+            (field(case, 32) == n as usize)
                 & (field(case, 36) == 0)
                 & (field(case, 40) == 0)
+                & (field(case, 44) == 0)
         }
     }
 }
@@ -100,14 +100,16 @@ fn sums(
     kinds: &[u8],
     addresses: &[u64],
     marks: &[u16],
+    places: &[u16],
     lines: &[u32],
 ) -> bool {
-    (u64_at(case, 60) == sum_u8(text))
-        & (u64_at(case, 68) == sum_u32(ends))
-        & (u64_at(case, 76) == sum_u8(kinds))
-        & (u64_at(case, 84) == sum_u64(addresses))
-        & (u64_at(case, 92) == sum_u16(marks))
-        & (u64_at(case, 100) == sum_u32(lines))
+    (u64_at(case, 64) == sum_u8(text))
+        & (u64_at(case, 72) == sum_u32(ends))
+        & (u64_at(case, 80) == sum_u8(kinds))
+        & (u64_at(case, 88) == sum_u64(addresses))
+        & (u64_at(case, 96) == sum_u16(marks))
+        & (u64_at(case, 104) == sum_u16(places))
+        & (u64_at(case, 112) == sum_u32(lines))
 }
 
 // Makes the call of a case on lists of the lengths that it has, and compares what it answers and leaves.
@@ -118,21 +120,23 @@ fn replay(
     kinds: &mut [u8],
     addresses: &mut [u64],
     marks: &mut [u16],
+    places: &mut [u16],
     lines: &mut [u32],
 ) -> bool {
-    let rec = part(case, 108, field(case, 0));
+    let rec = part(case, 120, field(case, 0));
     let answer = list(
         rec,
-        u64_at(case, 44) as usize,
-        u64_at(case, 52) as usize,
+        u64_at(case, 48) as usize,
+        u64_at(case, 56) as usize,
         text,
         ends,
         kinds,
         addresses,
         marks,
+        places,
         lines,
     );
-    answers(case, answer) & sums(case, text, ends, kinds, addresses, marks, lines)
+    answers(case, answer) & sums(case, text, ends, kinds, addresses, marks, places, lines)
 }
 
 // The lists as long as the case says.
@@ -143,6 +147,7 @@ fn replay_lists(
     kinds: &mut [u8],
     addresses: &mut [u64],
     marks: &mut [u16],
+    places: &mut [u16],
     lines: &mut [u32],
 ) -> bool {
     let x = within(field(case, 4), text.len());
@@ -150,7 +155,8 @@ fn replay_lists(
     let k = within(field(case, 12), kinds.len());
     let a = within(field(case, 16), addresses.len());
     let m = within(field(case, 20), marks.len());
-    let l = within(field(case, 24), lines.len());
+    let p = within(field(case, 24), places.len());
+    let l = within(field(case, 28), lines.len());
     replay(
         case,
         &mut text[..x],
@@ -158,17 +164,19 @@ fn replay_lists(
         &mut kinds[..k],
         &mut addresses[..a],
         &mut marks[..m],
+        &mut places[..p],
         &mut lines[..l],
     )
 }
 
-// Six lists as long as the program `listing` has them, every byte 0xee.
+// Seven lists as long as the program `listing` has them, every byte 0xee.
 fn replay_case(case: &[u8]) -> bool {
     let mut text = [0xeeu8; 65536];
     let mut ends = [0xeeee_eeeeu32; 16384];
     let mut kinds = [0xeeu8; 16384];
     let mut addresses = [0xeeee_eeee_eeee_eeeeu64; 900];
     let mut marks = [0xeeeeu16; 900];
+    let mut places = [0xeeeeu16; 900];
     let mut lines = [0xeeee_eeeeu32; 900];
     replay_lists(
         case,
@@ -177,6 +185,7 @@ fn replay_case(case: &[u8]) -> bool {
         &mut kinds,
         &mut addresses,
         &mut marks,
+        &mut places,
         &mut lines,
     )
 }
@@ -202,7 +211,7 @@ fn replay_all(corpus: &[u8]) {
     while n < count {
         let case = part_from(corpus, at);
         differ += differs(case);
-        at = within(at, 1000000) + 108 + field(case, 0);
+        at = within(at, 1000000) + 120 + field(case, 0);
         n += 1;
     }
     show(count, b" replayed, ");

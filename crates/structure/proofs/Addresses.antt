@@ -12,7 +12,7 @@ use Rattle.cfg.proofs.Within.{closes-some}
 use Rattle.structure.specs.Tree.{Tree}
 use Rattle.structure.specs.Tree.Tree.{over, plain, region, loop}
 use Rattle.structure.specs.Plan.{Line, labelIf, labelled, headLabelled, innerLabelled, bodyLines, blockLines, plainLines, flatLines, testBlock, loopLines, regionLines, treeLines}
-use Rattle.structure.specs.Demand.{Context, contexts, unsilenced, unsilencedIn, counted}
+use Rattle.structure.specs.Demand.{Context, Owned, owned, contexts, unsilenced, unsilencedIn, counted}
 use Rattle.structure.specs.Demand.Context.{in-range, last-in-body}
 use Rattle.structure.proofs.Grown.{Fits}
 use Rattle.structure.proofs.Unsilenced.{counted-join, unsilenced-join, last-counted, block-counted, head-counted}
@@ -33,10 +33,10 @@ label-counted true k d ls = refl
 label-counted false k d ls = refl
 
 module _ (blocks edges shown : List ℕ) (B : ℕ) where
-  abbrev left : Context → ℕ → List ℕ
+  abbrev left : Context → ℕ → List Owned
   left c k = unsilenced blocks shown c k (firstIn blocks k) (countIn blocks k)
 
-  abbrev leftIn : ℕ → List Context → List ℕ
+  abbrev leftIn : ℕ → List Context → List Owned
   leftIn k cs = unsilencedIn blocks shown k cs
 
   -- the contexts' places go on where the first ones end
@@ -73,7 +73,7 @@ module _ (blocks edges shown : List ℕ) (B : ℕ) where
       label-counted (labelled blocks edges B from i to) i d _
       ∙ counted-join (bodyLines blocks shown i d) _
       ∙ rw (counted-join inner, append-nil (counted inner), ← head-counted blocks shown i to d e)
-      (sym (append-assoc (counted (bodyLines blocks shown i d)) (lastIn blocks i ∷ []) (counted inner)))
+      (sym (append-assoc (counted (bodyLines blocks shown i d)) (owned i (lastIn blocks i) ∷ []) (counted inner)))
 
   pub tree-addresses : (t : Tree) (from i to d : ℕ) → Fits blocks edges t i to
       → counted (treeLines blocks edges shown B t from i to d) ≡ unsilencedIn blocks shown i (contexts t i to)

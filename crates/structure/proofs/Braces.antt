@@ -55,7 +55,7 @@ module _ (blocks edges shown : List ℕ) (B : ℕ) where
   region-flat from i to d inner p =
       flat-join (labelIf (labelled blocks edges B from i to) i d) _ (flat-labels d (labelled blocks edges B from i to) i)
       (flat-join (bodyLines blocks shown i d) _ (body-all blocks shown Flat flat-none flat-join d i (flat-one blocks d i))
-      (λ st ys n. simp append-assoc (p (if-brace d ∷ st) (line close-line i 0 d ∷ ys) (refl, n))))
+      (λ st ys n. simp append-assoc (p (if-brace d i ∷ st) (line close-line i 0 d ∷ ys) (refl, n))))
 
   pub tree-flat : (t : Tree) (from i to d : ℕ) → Flat (treeLines blocks edges shown B t from i to d)
   unfolding treeLines

@@ -5,6 +5,7 @@ pub mod Addresses
 pub mod Braces
 pub mod Few
 pub mod PlanPlaced
+pub mod Rises
 pub mod LoopsClosed
 pub mod Props
 pub mod Storing

@@ -14,26 +14,26 @@ use Rattle.cfg.specs.Graph.{firstIn, countIn, endingIn, endsInBranch, endsInJmp
 use Rattle.cfg.proofs.Within.{ends-some}
 use Rattle.structure.specs.Plan.{What, Line, line, shownLines, bodyCount, bodyLines, goesNext, jumpLines, closingLines}
 use Rattle.structure.specs.Plan.What.{label-line, do-line, open-line, if-goto, while-line, close-line, goto-line, tail-call, insn-line}
-use Rattle.structure.specs.Demand.{Context, lastSilent, silent, unsilenced, unsilencedIn, count, counted}
+use Rattle.structure.specs.Demand.{Context, Owned, owned, lastSilent, silent, unsilenced, unsilencedIn, count, counted}
 use Rattle.structure.specs.Demand.Context.{in-range, last-in-body}
 
 -- ---- the instructions of two runs of lines
 
-count-join : (w : What) (i : ℕ) (r s : List ℕ) → count w i (r ++ s) ≡ count w i r ++ s
-count-join label-line i r s = refl
-count-join do-line i r s = refl
-count-join open-line i r s = refl
-count-join if-goto i r s = refl
-count-join while-line i r s = refl
-count-join close-line i r s = refl
-count-join goto-line i r s = refl
-count-join tail-call i r s = refl
-count-join insn-line i r s = refl
+count-join : (w : What) (o : Owned) (r s : List Owned) → count w o (r ++ s) ≡ count w o r ++ s
+count-join label-line o r s = refl
+count-join do-line o r s = refl
+count-join open-line o r s = refl
+count-join if-goto o r s = refl
+count-join while-line o r s = refl
+count-join close-line o r s = refl
+count-join goto-line o r s = refl
+count-join tail-call o r s = refl
+count-join insn-line o r s = refl
 
 pub counted-join : (xs ys : List Line) → counted (xs ++ ys) ≡ counted xs ++ counted ys
 unfolding counted
 counted-join [] ys = refl
-counted-join (x ∷ xs) ys = rw (counted-join xs ys) (count-join (x .what) (x .at) (counted xs) (counted ys))
+counted-join (x ∷ xs) ys = rw (counted-join xs ys) (count-join (x .what) (owned (x .place) (x .at)) (counted xs) (counted ys))
 
 module _ (blocks shown : List ℕ) where
   pub unsilenced-join : (k : ℕ) (cs ds : List Context)
@@ -48,8 +48,12 @@ module _ (blocks shown : List ℕ) where
   abbrev lines : ℕ → ℕ → ℕ → ℕ → List Line
   lines k i n d = shownLines shown k i n d
 
-  abbrev left : Context → ℕ → ℕ → ℕ → List ℕ
+  abbrev left : Context → ℕ → ℕ → ℕ → List Owned
   left c k i n = unsilenced blocks shown c k i n
+
+  -- block k's last instruction, which it owns
+  abbrev pub lastOwned : ℕ → Owned
+  lastOwned k = owned k (lastIn blocks k)
 
   -- where the silent mark alone decides of instruction i
   not-last : (c : Context) (k i : ℕ) → (i ≡ lastIn blocks k → ⊥) → silent blocks shown c k i ≡ not (isShown shown i)
@@ -60,8 +64,8 @@ module _ (blocks shown : List ℕ) where
   unfolding silent
   is-last c k i h = rw (eq-eqb i (lastIn blocks k) h)
 
-  shown-more : (b : Bool) (k i d : ℕ) (ls : List Line) (r : List ℕ)
-      → pick (not b) (counted ls ++ r) (i ∷ (counted ls ++ r)) ≡ counted (pick b (line insn-line k i d ∷ ls) ls) ++ r
+  shown-more : (b : Bool) (k i d : ℕ) (ls : List Line) (r : List Owned)
+      → pick (not b) (counted ls ++ r) (owned k i ∷ (counted ls ++ r)) ≡ counted (pick b (line insn-line k i d ∷ ls) ls) ++ r
   unfolding counted
   shown-more true k i d ls r = refl
   shown-more false k i d ls r = refl
@@ -74,17 +78,17 @@ module _ (blocks shown : List ℕ) where
 
   -- up to the last
   left-until : (c : Context) (k n i d : ℕ) (b : Bool) → i + n ≡ lastIn blocks k → lastSilent blocks shown c k ≡ b
-      → left c k i (suc n) ≡ counted (lines k i n d) ++ pick b [] (lastIn blocks k ∷ [])
+      → left c k i (suc n) ≡ counted (lines k i n d) ++ pick b [] (lastOwned k ∷ [])
   unfolding unsilenced shownLines counted
   left-until c k zero i d b h e =
       let z : i ≡ lastIn blocks k = omega arith in
       rw (is-last c k i z, z, e)
   left-until c k (suc n) i d b h e =
       rw (not-last c k i (omega arith), left-until c k n (suc i) d b (omega arith) e)
-      (shown-more (isShown shown i) k i d (lines k (suc i) n d) (pick b [] (lastIn blocks k ∷ [])))
+      (shown-more (isShown shown i) k i d (lines k (suc i) n d) (pick b [] (lastOwned k ∷ [])))
 
   left-last : (c : Context) (k d : ℕ) (b : Bool) → 1 ≤ countIn blocks k → lastSilent blocks shown c k ≡ b
-      → left c k (firstIn blocks k) (countIn blocks k) ≡ counted (lines k (firstIn blocks k) (countIn blocks k - 1) d) ++ pick b [] (lastIn blocks k ∷ [])
+      → left c k (firstIn blocks k) (countIn blocks k) ≡ counted (lines k (firstIn blocks k) (countIn blocks k - 1) d) ++ pick b [] (lastOwned k ∷ [])
   left-last c k d b h e =
       let s : countIn blocks k ≡ suc (countIn blocks k - 1) = omega arith in
       ap (left c k (firstIn blocks k)) s ∙ left-until c k (countIn blocks k - 1) (firstIn blocks k) d b (omega arith) e
@@ -99,7 +103,7 @@ module _ (blocks shown : List ℕ) where
       by false e = refl
 
   -- the lines of a block's shown instructions, and one for the last
-  one-more : (k i n d : ℕ) (ls : List Line) (r : List ℕ) → counted ls ≡ r → counted (lines k i n d ++ ls) ≡ counted (lines k i n d) ++ r
+  one-more : (k i n d : ℕ) (ls : List Line) (r : List Owned) → counted ls ≡ r → counted (lines k i n d ++ ls) ≡ counted (lines k i n d) ++ r
   one-more k i n d ls r e = rw (counted-join (lines k i n d) ls, e)
 
   -- the last block of a do-body
@@ -110,7 +114,7 @@ module _ (blocks shown : List ℕ) where
 
   -- with a closing branch or jmp, of which the context says whether it is silent
   closing-counted : (c : Context) (k d : ℕ) (ls : List Line) (b : Bool) → 1 ≤ countIn blocks k → lastSilent blocks shown c k ≡ b
-      → counted ls ≡ pick b [] (lastIn blocks k ∷ [])
+      → counted ls ≡ pick b [] (lastOwned k ∷ [])
       → counted (lines k (firstIn blocks k) (countIn blocks k - 1) d ++ ls) ≡ left c k (firstIn blocks k) (countIn blocks k)
   closing-counted c k d ls b h f g = one-more k _ _ _ _ _ g ∙ sym (left-last c k d b h f)
 
@@ -121,7 +125,7 @@ module _ (blocks shown : List ℕ) where
   other-counted c k d f = one-more k _ _ _ _ _ refl ∙ sym (left-all c k (firstIn blocks k) (countIn blocks k) d (all-alike c k f))
 
   jump-counted : (k d : ℕ) (b w : Bool)
-      → counted (pick b [] (line (pick w goto-line tail-call) k (lastIn blocks k) d ∷ [])) ≡ pick b [] (lastIn blocks k ∷ [])
+      → counted (pick b [] (line (pick w goto-line tail-call) k (lastIn blocks k) d ∷ [])) ≡ pick b [] (lastOwned k ∷ [])
   unfolding counted
   jump-counted k d true w = refl
   jump-counted k d false true = refl
@@ -142,7 +146,7 @@ module _ (blocks shown : List ℕ) where
 
   -- the block of an if-region
   pub head-counted : (k to d : ℕ) → endingIn blocks k ≡ 2
-      → counted (bodyLines blocks shown k d) ++ (lastIn blocks k ∷ []) ≡ left (in-range to) k (firstIn blocks k) (countIn blocks k)
+      → counted (bodyLines blocks shown k d) ++ (lastOwned k ∷ []) ≡ left (in-range to) k (firstIn blocks k) (countIn blocks k)
   unfolding bodyCount
   head-counted k to d e =
       let p : endsInBranch blocks k ≡ true = eq-eqb (endingIn blocks k) 2 e in

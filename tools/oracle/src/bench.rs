@@ -121,14 +121,15 @@ fn room(n: usize) -> Lists {
         kinds: vec![0; n],
         addresses: vec![0; 900],
         marks: vec![0; 900],
+        places: vec![0; 900],
         line_ends: vec![0; 900],
     }
 }
 
-/// How many bytes the six lists of the whole range's listing have.
+/// How many bytes the seven lists of the whole range's listing have.
 fn listed(bytes: &[u8], blocks: usize) -> usize {
     let sizes = cakirotu::size(bytes, 0..blocks).expect("a record of the benchmark is listed");
-    sizes.text + sizes.tokens * (4 + 1) + sizes.lines * (8 + 2 + 4)
+    sizes.text + sizes.tokens * (4 + 1) + sizes.lines * (8 + 2 + 2 + 4)
 }
 
 /// Bytes of the records and of their listings' lists, an instruction.

@@ -8,7 +8,7 @@ use crate::demand3;
 use crate::gen;
 use crate::lines::Forms;
 use crate::listing;
-use crate::lists::Lists;
+use crate::lists::{self, Lists};
 use crate::pieces::{self, Piece};
 use crate::port::{self, Port};
 use crate::questions;
@@ -239,8 +239,7 @@ pub fn lines(seed: u64, count: usize) -> Result<bool, String> {
         forms.add(&record, &ours);
         seen.add(&ours);
         tally.compared += 1;
-        let (x, k, l) = (ours.text.len(), ours.token_ends.len(), ours.lines());
-        if let Err(why) = accepted(&call, &port, Lists::lent(x, [k, k], [l, l, l]), &ours) {
+        if let Err(why) = accepted(&call, &port, Lists::lent(lists::fitting(ours.sizes())), &ours) {
             tally.differs(&call, || why)?;
         }
     }
@@ -289,25 +288,17 @@ fn lists_alike(call: &Call, port: &Port, n: usize, seen: &mut Seen) -> Result<()
     let Call { bytes, from, to } = call;
     let no = questions::first_no(bytes, *from, *to);
     if no != 0 {
-        return refused(call, port, Lists::lent(64, [16, 16], [8, 8, 8]), no);
+        return refused(call, port, Lists::lent(lists::fitting([64, 16, 8])), no);
     }
     let ours = listing::list(bytes, *from, *to).map_err(|e| format!("the Rust panics: {e}"))?;
     seen.add(&ours);
-    let (x, k, l) = (ours.text.len(), ours.token_ends.len(), ours.lines());
-    accepted(call, port, Lists::lent(x, [k, k], [l, l, l]), &ours)?;
+    accepted(call, port, Lists::lent(lists::fitting(ours.sizes())), &ours)?;
     demand3::check(&Record::parse(bytes), *from, *to, &ours)?;
-    accepted(call, port, Lists::lent(x + 3, [k + 1, k + 2], [l + 4, l + 1, l + 2]), &ours)?;
-    if l == 0 {
+    accepted(call, port, Lists::longer(ours.sizes()), &ours)?;
+    if ours.lines() == 0 {
         return Ok(());
     }
-    let (lent, no) = match n % 6 {
-        0 => (Lists::lent(x - 1, [k, k], [l, l, l]), 12),
-        1 => (Lists::lent(x, [k - 1, k], [l, l, l]), 13),
-        2 => (Lists::lent(x, [k, k - 1], [l, l, l]), 13),
-        3 => (Lists::lent(x, [k, k], [l - 1, l, l]), 14),
-        4 => (Lists::lent(x, [k, k], [l, l - 1, l]), 14),
-        _ => (Lists::lent(x, [k, k], [l, l, l - 1]), 14),
-    };
+    let (lent, no) = Lists::one_less(ours.sizes(), n % 7);
     refused(call, port, lent, no)
 }
 
@@ -326,7 +317,7 @@ fn refused(call: &Call, port: &Port, lent: Lists, no: u8) -> Result<(), String> 
 /// A listing: the sizes, and the lists as an accepted call leaves them.
 fn accepted(call: &Call, port: &Port, lent: Lists, ours: &listing::Listing) -> Result<(), String> {
     let left = (port.list)(&call.bytes, call.from, call.to, lent.clone());
-    let sizes = [ours.text.len(), ours.token_ends.len(), ours.lines()];
+    let sizes = ours.sizes();
     if left.no != 0 || left.sizes != sizes {
         return Err(format!("the Rust lists {sizes:?}, the port says {} with sizes {:?}", left.no, left.sizes));
     }
@@ -350,6 +341,7 @@ fn first_unlike(want: &Lists, got: &Lists) -> String {
         .or_else(|| at("token kinds", &want.kinds, &got.kinds))
         .or_else(|| at("line addresses", &want.addresses, &got.addresses))
         .or_else(|| at("line marks", &want.marks, &got.marks))
+        .or_else(|| at("line places", &want.places, &got.places))
         .or_else(|| at("line token ends", &want.line_ends, &got.line_ends))
         .unwrap_or_else(|| "no list differs".to_string())
 }

@@ -1,6 +1,6 @@
 //! Demand 3 on a listing, from document 01's words as amended by document 02: no more lines than I + 2B, exactly the lines of
-//! the instructions that are not silent and in their order, braces that match, and indents that
-//! follow the braces.
+//! the instructions that are not silent and in their order, braces that match, indents that follow the braces, and each line with
+//! the place of its block.
 
 use crate::listing::{Listing, Origin};
 use crate::record::{kind, mnemonic as m, register as r, Insn, Record};
@@ -10,7 +10,9 @@ pub fn check(record: &Record, from: usize, to: usize, listing: &Listing) -> Resu
     let range = Range::new(record, from, to);
     few_lines(&range, listing)?;
     let regions = match_braces(&range, listing)?;
-    right_instructions(&range, listing, &regions)
+    right_instructions(&range, listing, &regions)?;
+    right_places(&range, listing)?;
+    rising_places(listing)
 }
 
 /// A range's blocks with the number of each block's first instruction.
@@ -110,6 +112,39 @@ fn right_instructions(range: &Range, listing: &Listing, regions: &Regions) -> Re
     match written == expected {
         true => Ok(()),
         false => Err(format!("lines for instructions {written:?}, where {expected:?} are not silent")),
+    }
+}
+
+/// #107: "each instruction's line names its own block", the while-line's being the loop's last; a label and a do-line name the block that starts
+/// at their address, a lone brace the block of the latest opening line still open.
+fn right_places(range: &Range, listing: &Listing) -> Result<(), String> {
+    let mut open: Vec<usize> = Vec::new();
+    for (line, origin) in listing.origins.iter().enumerate() {
+        let place = usize::from(listing.line_places[line]);
+        let starts = |p: &usize| range.record.blocks[*p].start == listing.line_addresses[line];
+        let expected = match origin {
+            Origin::Label(_) | Origin::Do(_) => (range.from..range.to).find(starts),
+            Origin::Open(n) | Origin::While(n) | Origin::Instruction(n) => Some(range.place_of(*n)),
+            Origin::Close => open.pop(),
+        };
+        if expected != Some(place) {
+            return Err(format!("line {line}: place {place}, where {expected:?} is its block's"));
+        }
+        if matches!(origin, Origin::Open(_)) {
+            open.push(place);
+        }
+    }
+    Ok(())
+}
+
+/// #107: "Instruction, opening and label lines have places that never fall from one line to the next"; nor do those of
+/// while-lines.
+fn rising_places(listing: &Listing) -> Result<(), String> {
+    let lines = listing.origins.iter().zip(&listing.line_places);
+    let places: Vec<u16> = lines.filter(|(origin, _)| **origin != Origin::Close).map(|(_, place)| *place).collect();
+    match places.is_sorted() {
+        true => Ok(()),
+        false => Err(format!("places fall: {places:?}")),
     }
 }
 

@@ -1,4 +1,4 @@
-//! The six lists of document 01, made from the Rust's lines.
+//! The lists of an accepted call: document 01's, made from the Rust's lines, and with #107 the lines' places, made from the record.
 
 use std::cell::Cell;
 use std::panic::{catch_unwind, AssertUnwindSafe};
@@ -23,8 +23,10 @@ pub struct Listing {
     pub token_kinds: Vec<u8>,
     pub line_addresses: Vec<u64>,
     pub line_marks: Vec<u16>,
+    /// For each line the place of its block in the record (#107).
+    pub line_places: Vec<u16>,
     pub line_ends: Vec<u32>,
-    /// What each line was written for; not a list of document 01.
+    /// What each line was written for; not a list of a call.
     pub origins: Vec<Origin>,
     /// How many lines a request of document 02 leaves to the amended Rust.
     pub amended: usize,
@@ -182,6 +184,7 @@ fn message(e: Box<dyn std::any::Any + Send>) -> String {
 fn lists(record: &Record, lines: &[PseudoLine], tag: u64) -> Listing {
     let addresses: Vec<u64> = record.insns().map(|i| i.address).collect();
     let mut out = Listing { origins: lines.iter().map(|l| origin(record, l, tag)).collect(), ..Listing::default() };
+    out.line_places = places(record, &out.origins);
     for (line, origin) in lines.iter().zip(&out.origins) {
         for token in &line.tokens {
             out.text.extend(token.t.as_bytes());
@@ -198,6 +201,24 @@ fn lists(record: &Record, lines: &[PseudoLine], tag: u64) -> Listing {
     }
     count_amended(record, lines, tag, &mut out);
     out
+}
+
+/// #107: "a label, an instruction or an opening line that of the block it was written for, a closing brace that of the block whose branch
+/// opened it, a while-line that of the loop's last block", the block of its closing test. A lone brace closes the latest opening line still open.
+fn places(record: &Record, origins: &[Origin]) -> Vec<u16> {
+    let mut open = Vec::new();
+    let place = |origin: &Origin| {
+        let place = match *origin {
+            Origin::Label(place) | Origin::Do(place) => place,
+            Origin::Open(n) | Origin::While(n) | Origin::Instruction(n) => record.place_of(n),
+            Origin::Close => open.pop().expect("a brace closes an opening line"),
+        };
+        if matches!(origin, Origin::Open(_)) {
+            open.push(place);
+        }
+        place as u16
+    };
+    origins.iter().map(place).collect()
 }
 
 /// Which of the lines are the amended Rust's.
@@ -243,6 +264,11 @@ impl Listing {
         self.line_ends.len()
     }
 
+    /// Text bytes, tokens, lines.
+    pub fn sizes(&self) -> [usize; 3] {
+        [self.text.len(), self.token_ends.len(), self.lines()]
+    }
+
     /// A line's tokens: kind and text.
     pub fn tokens(&self, n: usize) -> impl Iterator<Item = (u8, &[u8])> {
         let first = if n == 0 { 0 } else { self.line_ends[n - 1] as usize };
@@ -264,6 +290,7 @@ impl Listing {
             .or_else(|| first_apart("token kinds", &self.token_kinds, &other.token_kinds))
             .or_else(|| first_apart("line addresses", &self.line_addresses, &other.line_addresses))
             .or_else(|| first_apart("line marks", &self.line_marks, &other.line_marks))
+            .or_else(|| first_apart("line places", &self.line_places, &other.line_places))
             .or_else(|| first_apart("line ends", &self.line_ends, &other.line_ends))
     }
 

@@ -39,6 +39,7 @@ pub fn slices(lists: &mut Lists) -> cakirotu::Lists<'_> {
         kinds: &mut lists.kinds,
         addresses: &mut lists.addresses,
         marks: &mut lists.marks,
+        places: &mut lists.places,
         lines: &mut lists.line_ends,
     }
 }

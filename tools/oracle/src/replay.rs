@@ -4,12 +4,12 @@
 //!
 //! ```text
 //!   0  u32      length of the record
-//!   4  6 u32    lengths of the lists lent: text, token ends, token kinds, line addresses, line marks, line token ends
-//!  28  u32      the answer: 0, or the number of a refusal
-//!  32  3 u32    sizes: text bytes, tokens, lines; 0 if refused
-//!  44  2 u64    from, to
-//!  60  6 u64    sums of the six lists after the call
-//! 108           the record's bytes
+//!   4  7 u32    lengths of the lists lent: text, token ends, token kinds, line addresses, line marks, line places, line token ends
+//!  32  u32      the answer: 0, or the number of a refusal
+//!  36  3 u32    sizes: text bytes, tokens, lines; 0 if refused
+//!  48  2 u64    from, to
+//!  64  7 u64    sums of the seven lists after the call
+//! 120           the record's bytes
 //! ```
 //!
 //! Every list is lent with each byte 0xee. A list's sum is over all that was lent, so over what must not change too: from 1,
@@ -19,7 +19,7 @@
 use crate::damage::{self, Call};
 use crate::gen;
 use crate::listing::{self, Listing};
-use crate::lists::Lists;
+use crate::lists::{self, Lists};
 use crate::questions;
 use crate::record::{self, Layout, Record};
 use crate::rng::Rng;
@@ -66,7 +66,7 @@ pub fn cases(count: usize, seed: u64) -> Result<Vec<Case>, String> {
             _ if n == 0 => listed(whole(&record::example()), 0),
             _ if n + 1 == count => listed(until_some(|| at_limits(&mut rng))?, 0),
             6 | 7 => refused(&mut rng, asked[(n / 10 * 2 + n % 2) % asked.len()]),
-            8 => too_short(&mut rng, n / 10 % 8),
+            8 => too_short(&mut rng, n / 10 % 9),
             _ => listed(witnesses.next().unwrap_or_else(|| usual_call(&mut rng, n)), n),
         })
         .collect()
@@ -92,7 +92,8 @@ fn whole(record: &Record) -> Call {
 fn at_limits(rng: &mut Rng) -> Option<Call> {
     let call = whole(&gen::at_limits(rng));
     let ours = listing::list(&call.bytes, call.from, call.to).ok()?;
-    let sizes = [call.bytes.len(), ours.text.len(), ours.token_ends.len(), ours.lines()];
+    let [text, tokens, lines] = ours.sizes();
+    let sizes = [call.bytes.len(), text, tokens, lines];
     sizes.iter().zip(HOLDS).all(|(size, most)| *size <= most).then_some(call)
 }
 
@@ -124,17 +125,16 @@ fn until_some<T>(mut make: impl FnMut() -> Option<T>) -> Result<T, String> {
 
 fn sizes_of(call: &Call) -> Result<(Listing, [usize; 3]), String> {
     let ours = listing::list(&call.bytes, call.from, call.to).map_err(|e| format!("the Rust panics: {e}"))?;
-    let sizes = [ours.text.len(), ours.token_ends.len(), ours.lines()];
+    let sizes = ours.sizes();
     Ok((ours, sizes))
 }
 
 /// An accepted call, on lists that fit or, for odd `n`, are longer.
 fn listed(call: Call, n: usize) -> Result<Case, String> {
     let (ours, sizes) = sizes_of(&call)?;
-    let [x, k, l] = sizes;
     let lent = match n % 2 {
-        0 => Lists::lent(x, [k, k], [l, l, l]),
-        _ => Lists::lent(x + 3, [k + 1, k + 2], [l + 4, l + 1, l + 2]),
+        0 => Lists::lent(lists::fitting(sizes)),
+        _ => Lists::longer(sizes),
     };
     Ok(Case { call, left: lent.clone().filled(&ours), lent, no: 0, sizes })
 }
@@ -147,29 +147,25 @@ fn refused(rng: &mut Rng, no: u8) -> Result<Case, String> {
         let first = questions::first_no(&call.bytes, call.from, call.to);
         (first == no && call.bytes.len() <= 1200).then_some(call)
     })?;
-    Ok(refusal(call, Lists::lent(64, [16, 16], [8, 8, 8]), no))
+    Ok(refusal(call, Lists::lent(lists::fitting([64, 16, 8])), no))
 }
 
 fn refusal(call: Call, lent: Lists, no: u8) -> Case {
     Case { call, left: lent.clone(), lent, no, sizes: [0; 3] }
 }
 
-/// One of the six lists one too short, or several of them.
+/// One of the seven lists one too short, or several of them.
 fn too_short(rng: &mut Rng, which: usize) -> Result<Case, String> {
-    let (call, [x, k, l]) = until_some(|| {
+    let (call, sizes) = until_some(|| {
         let call = small_call(rng, 600);
         let (_, sizes) = sizes_of(&call).ok()?;
         (sizes[2] > 0).then_some((call, sizes))
     })?;
+    let [x, k, l] = sizes;
     let (lent, no) = match which {
-        0 => (Lists::lent(x - 1, [k, k], [l, l, l]), 12),
-        1 => (Lists::lent(x, [k - 1, k], [l, l, l]), 13),
-        2 => (Lists::lent(x, [k, k - 1], [l, l, l]), 13),
-        3 => (Lists::lent(x, [k, k], [l - 1, l, l]), 14),
-        4 => (Lists::lent(x, [k, k], [l, l - 1, l]), 14),
-        5 => (Lists::lent(x, [k, k], [l, l, l - 1]), 14),
-        6 => (Lists::lent(x, [k - 1, 0], [0, l, l - 1]), 13),
-        _ => (Lists::lent(0, [0, 0], [0, 0, 0]), 12),
+        0..7 => Lists::one_less(sizes, which),
+        7 => (Lists::lent([x, k - 1, 0, 0, l, l, l - 1]), 13),
+        _ => (Lists::lent([0; 7]), 12),
     };
     Ok(refusal(call, lent, no))
 }
@@ -178,9 +174,7 @@ impl Case {
     fn put(&self, out: &mut Vec<u8>) {
         let Case { call, lent, left, no, sizes } = self;
         put_u32(out, call.bytes.len());
-        let lists =
-            [lent.text.len(), lent.ends.len(), lent.kinds.len(), lent.addresses.len(), lent.marks.len(), lent.line_ends.len()];
-        lists.into_iter().for_each(|n| put_u32(out, n));
+        lent.lengths().into_iter().for_each(|n| put_u32(out, n));
         put_u32(out, (*no).into());
         sizes.iter().for_each(|n| put_u32(out, *n));
         out.extend((call.from as u64).to_le_bytes());
@@ -196,14 +190,15 @@ fn put_u32(out: &mut Vec<u8>, n: usize) {
     out.extend(u32::try_from(n).expect("sizes are small").to_le_bytes());
 }
 
-/// The sums of six lists, as the corpus has them.
-pub fn sums(lists: &Lists) -> [u64; 6] {
+/// The sums of seven lists, as the corpus has them.
+pub fn sums(lists: &Lists) -> [u64; 7] {
     [
         sum(lists.text.iter().map(|n| u64::from(*n))),
         sum(lists.ends.iter().map(|n| u64::from(*n))),
         sum(lists.kinds.iter().map(|n| u64::from(*n))),
         sum(lists.addresses.iter().flat_map(|n| [n & 0xffff_ffff, n >> 32])),
         sum(lists.marks.iter().map(|n| u64::from(*n))),
+        sum(lists.places.iter().map(|n| u64::from(*n))),
         sum(lists.line_ends.iter().map(|n| u64::from(*n))),
     ]
 }

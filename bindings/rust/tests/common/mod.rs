@@ -84,7 +84,7 @@ fn body(mnemonic: u8, condition: u8, operands: &[(u8, u8, u64)], name: &[u8]) ->
     body
 }
 
-/// Six lists, lent with each byte 0xee.
+/// Seven lists, lent with each byte 0xee.
 #[derive(Clone, Debug, PartialEq, Eq)]
 pub struct Lent {
     pub text: Vec<u8>,
@@ -92,19 +92,21 @@ pub struct Lent {
     pub kinds: Vec<u8>,
     pub addresses: Vec<u64>,
     pub marks: Vec<u16>,
+    pub places: Vec<u16>,
     pub lines: Vec<u32>,
 }
 
 impl Lent {
     /// Of these lengths, in the order of the fields.
-    pub fn new(lengths: [usize; 6]) -> Lent {
-        let [text, ends, kinds, addresses, marks, lines] = lengths;
+    pub fn new(lengths: [usize; 7]) -> Lent {
+        let [text, ends, kinds, addresses, marks, places, lines] = lengths;
         Lent {
             text: vec![0xee; text],
             ends: vec![0xeeee_eeee; ends],
             kinds: vec![0xee; kinds],
             addresses: vec![0xeeee_eeee_eeee_eeee; addresses],
             marks: vec![0xeeee; marks],
+            places: vec![0xeeee; places],
             lines: vec![0xeeee_eeee; lines],
         }
     }
@@ -116,13 +118,14 @@ impl Lent {
             kinds: &mut self.kinds,
             addresses: &mut self.addresses,
             marks: &mut self.marks,
+            places: &mut self.places,
             lines: &mut self.lines,
         }
     }
 }
 
 /// The lengths of lists that fit just so.
-pub fn exact(sizes: Sizes) -> [usize; 6] {
+pub fn exact(sizes: Sizes) -> [usize; 7] {
     let Sizes { text, tokens, lines } = sizes;
-    [text, tokens, tokens, lines, lines, lines]
+    [text, tokens, tokens, lines, lines, lines, lines]
 }

@@ -38,6 +38,9 @@ slice-aggregate-list-5 c = search needs
 slice-aggregate-list-6 : tie.Need-slice-aggregate-list-6
 slice-aggregate-list-6 c = search needs
 
+slice-aggregate-list-7 : tie.Need-slice-aggregate-list-7
+slice-aggregate-list-7 c = search needs
+
 list-requires : tie.Need-list-requires
 list-requires c κs = search needs
 
@@ -76,11 +79,11 @@ part-u16-requires c κs = search needs
 
 put-page-requires : tie.Need-put-page-requires
 put-page-requires c κs =
-    let s = (c .before .before .before .before .before .before .before .before .before .before .before .before .before .before .before .before .before .before .before .before .before .before .before .before .before .before .before .before .before .before .before .args) .rec .now in
-    let whole = (c .before .before .before .before .before .before .before .before .before .before .before .before .before .before .before .before .before .before .before .before .before .before .before .before .before .before .before .size) .ensures .0 ∙ ap (λ (h : Header). h .blocks) ((c .before .before .before .before .before .before .before .before .before .before .before .before .before .before .before .before .before .before .before .before .before .before .before .before .before .before .before .before .read-header) .ensures) in
-    let few = few-lines s _ whole _ _ _ _ _ _ _ ((c .before .before .before .before .before .before .before .before .before .before .before .before .before .before .before .before .before .before .before .before .list) .ensures .called) _ ((c .before .before .before .before .before .before .before .before .before .before .before .before .z) .given .1) in
-    let short = short-text s _ whole _ _ _ _ _ _ _ ((c .before .before .before .before .before .before .before .before .before .before .before .before .before .before .before .before .before .before .before .before .list) .ensures .called) _ ((c .before .before .before .before .before .before .before .before .before .before .before .before .z) .given .1) in
-    let kept = (c .before .before .before .before .before .before .before .before .before .before .before .before .before .before .before .before .before .before .before .before .list) .kept .1 .1 .1 in
+    let s = (c .before .before .before .before .before .before .before .before .before .before .before .before .before .before .before .before .before .before .before .before .before .before .before .before .before .before .before .before .before .before .before .before .before .args) .rec .now in
+    let whole = (c .before .before .before .before .before .before .before .before .before .before .before .before .before .before .before .before .before .before .before .before .before .before .before .before .before .before .before .before .before .size) .ensures .0 ∙ ap (λ (h : Header). h .blocks) ((c .before .before .before .before .before .before .before .before .before .before .before .before .before .before .before .before .before .before .before .before .before .before .before .before .before .before .before .before .before .before .read-header) .ensures) in
+    let few = few-lines s _ whole _ _ ((c .before .before .before .before .before .before .before .before .before .before .before .before .before .before .before .before .before .before .before .before .before .list) .ensures .called) _ ((c .before .before .before .before .before .before .before .before .before .before .before .before .z) .given .1) in
+    let short = short-text s _ whole _ _ ((c .before .before .before .before .before .before .before .before .before .before .before .before .before .before .before .before .before .before .before .before .before .list) .ensures .called) _ ((c .before .before .before .before .before .before .before .before .before .before .before .before .z) .given .1) in
+    let kept = (c .before .before .before .before .before .before .before .before .before .before .before .before .before .before .before .before .before .before .before .before .before .list) .kept .1 .1 .1 in
     (omega (arith, few, kept .1 .1 .1 .0, length-replicate {A = ℕ} 900 0), omega (arith, short, (c .before .before .before .before .before .before .before .before .part) .ensures .1, kept .0, length-replicate {A = ℕ} 65536 0))
 
 enum-known-n : tie.Need-enum-known-n
@@ -94,13 +97,13 @@ same-length c = search needs
 
 returns : tie.Need-returns
 returns c =
-    let s = (c .before .before .before .before .before .before .before .before .before .before .before .before .before .before .before .before .before .before .before .before .before .before .before .before .before .before .before .before .before .before .before .before .before .before .args) .rec .now in
-    let out = (c .before .before .before .before .before .before .before .before .before .before .before .before .before .before .before .before .before .before .before .before .before .before .before .before .before .before .before .before .before .before .before .before .before .before .args) .out .now in
-    let whole = (c .before .before .before .before .before .before .before .before .before .before .before .before .before .before .before .before .before .before .before .before .before .before .before .before .before .before .before .before .before .before .size) .ensures .0 ∙ ap (λ (h : Header). h .blocks) ((c .before .before .before .before .before .before .before .before .before .before .before .before .before .before .before .before .before .before .before .before .before .before .before .before .before .before .before .before .before .before .before .read-header) .ensures) in
-    let bytes : AllBytes s = λ k. omega (arith, (c .before .before .before .before .before .before .before .before .before .before .before .before .before .before .before .before .before .before .before .before .before .before .before .before .before .before .before .before .before .before .before .before .before .shared-slice-known) .given k) in
-    let kept = (c .before .before .before .before .before .before .before .before .before .before .before .before .before .before .before .before .before .before .before .before .before .before .before .list) .kept .1 .1 .1 in
-    let p = page-output s _ whole _ _ _ _ _ _ _ ((c .before .before .before .before .before .before .before .before .before .before .before .before .before .before .before .before .before .before .before .before .before .before .before .list) .ensures .called) _ ((c .before .before .before .before .before .before .before .before .before .before .before .before .before .before .before .z) .given .1) _ _ _ _ _ ((c .before .before .before .before .before .before .before .before .before .before .before .part) .ensures .0) ((c .before .before .before .before .before .before .before .before .before .part-u32) .ensures) ((c .before .before .before .before .before .before .before .part-u322) .ensures) ((c .before .before .before .before .before .part-u64) .ensures) ((c .before .before .before .part-u16) .ensures) in
-    let short = short-output s _ whole _ _ _ _ _ _ _ ((c .before .before .before .before .before .before .before .before .before .before .before .before .before .before .before .before .before .before .before .before .before .before .before .list) .ensures .called) _ ((c .before .before .before .before .before .before .before .before .before .before .before .before .before .before .before .z) .given .1) bytes (kept .0 ∙ length-replicate {A = ℕ} 65536 0) (kept .1 .1 .1 .0 ∙ length-replicate {A = ℕ} 900 0) in
+    let s = (c .before .before .before .before .before .before .before .before .before .before .before .before .before .before .before .before .before .before .before .before .before .before .before .before .before .before .before .before .before .before .before .before .before .before .before .before .args) .rec .now in
+    let out = (c .before .before .before .before .before .before .before .before .before .before .before .before .before .before .before .before .before .before .before .before .before .before .before .before .before .before .before .before .before .before .before .before .before .before .before .before .args) .out .now in
+    let whole = (c .before .before .before .before .before .before .before .before .before .before .before .before .before .before .before .before .before .before .before .before .before .before .before .before .before .before .before .before .before .before .before .before .size) .ensures .0 ∙ ap (λ (h : Header). h .blocks) ((c .before .before .before .before .before .before .before .before .before .before .before .before .before .before .before .before .before .before .before .before .before .before .before .before .before .before .before .before .before .before .before .before .before .read-header) .ensures) in
+    let bytes : AllBytes s = λ k. omega (arith, (c .before .before .before .before .before .before .before .before .before .before .before .before .before .before .before .before .before .before .before .before .before .before .before .before .before .before .before .before .before .before .before .before .before .before .before .shared-slice-known) .given k) in
+    let kept = (c .before .before .before .before .before .before .before .before .before .before .before .before .before .before .before .before .before .before .before .before .before .before .before .before .list) .kept .1 .1 .1 in
+    let p = page-output s _ whole _ _ ((c .before .before .before .before .before .before .before .before .before .before .before .before .before .before .before .before .before .before .before .before .before .before .before .before .list) .ensures .called) _ ((c .before .before .before .before .before .before .before .before .before .before .before .before .before .before .before .z) .given .1) _ _ _ _ _ ((c .before .before .before .before .before .before .before .before .before .before .before .part) .ensures .0) ((c .before .before .before .before .before .before .before .before .before .part-u32) .ensures) ((c .before .before .before .before .before .before .before .part-u322) .ensures) ((c .before .before .before .before .before .part-u64) .ensures) ((c .before .before .before .part-u16) .ensures) in
+    let short = short-output s _ whole _ _ ((c .before .before .before .before .before .before .before .before .before .before .before .before .before .before .before .before .before .before .before .before .before .before .before .before .list) .ensures .called) _ ((c .before .before .before .before .before .before .before .before .before .before .before .before .before .before .before .z) .given .1) bytes (kept .0 ∙ length-replicate {A = ℕ} 65536 0) (kept .1 .1 .1 .0 ∙ length-replicate {A = ℕ} 900 0) in
     let end = (c .before .before .put-page) .ensures .0 ∙ ap length p in
     let text = (c .before .before .put-page) .ensures .1 ∙ ap (λ (t : List ℕ). put 0 t out) p in
     ((end, omega (arith, end, short)), (text, λ room. prints s _ (stands-whole _ out _ _ end text (omega (arith, end, short, room)))))
@@ -110,10 +113,10 @@ same-length-2 c = search needs
 
 returns-2 : tie.Need-returns-2
 returns-2 c =
-    let s = (c .before .before .before .before .before .before .before .before .before .before .before .before .before .before .before .before .before .before .before .before .before .before .before .before .args) .rec .now in
-    let out = (c .before .before .before .before .before .before .before .before .before .before .before .before .before .before .before .before .before .before .before .before .before .before .before .before .args) .out .now in
-    let whole = (c .before .before .before .before .before .before .before .before .before .before .before .before .before .before .before .before .before .before .before .before .size) .ensures .0 ∙ ap (λ (h : Header). h .blocks) ((c .before .before .before .before .before .before .before .before .before .before .before .before .before .before .before .before .before .before .before .before .before .read-header) .ensures) in
-    let p = no-output s _ whole _ _ _ _ _ _ _ ((c .before .before .before .before .before .before .before .before .before .before .before .before .before .list) .ensures .called) _ ((c .before .before .before .before .before .n) .given .1) in
+    let s = (c .before .before .before .before .before .before .before .before .before .before .before .before .before .before .before .before .before .before .before .before .before .before .before .before .before .before .args) .rec .now in
+    let out = (c .before .before .before .before .before .before .before .before .before .before .before .before .before .before .before .before .before .before .before .before .before .before .before .before .before .before .args) .out .now in
+    let whole = (c .before .before .before .before .before .before .before .before .before .before .before .before .before .before .before .before .before .before .before .before .before .before .size) .ensures .0 ∙ ap (λ (h : Header). h .blocks) ((c .before .before .before .before .before .before .before .before .before .before .before .before .before .before .before .before .before .before .before .before .before .before .before .read-header) .ensures) in
+    let p = no-output s _ whole _ _ ((c .before .before .before .before .before .before .before .before .before .before .before .before .before .before .list) .ensures .called) _ ((c .before .before .before .before .before .n) .given .1) in
     let end = (c .before .before .put-refusal) .ensures .0 .0 ∙ sym (ap length p) in
     let text = (c .before .before .put-refusal) .ensures .1 ∙ sym (ap (λ (t : List ℕ). put 0 t out) p) in
     let short = (c .before .before .put-refusal) .ensures .0 .1 in
@@ -131,6 +134,7 @@ answer-spec =
     slice-aggregate-list-4
     slice-aggregate-list-5
     slice-aggregate-list-6
+    slice-aggregate-list-7
     list-requires
     enum-known-z
     slice-aggregate-part

@@ -42,6 +42,12 @@ field-requires-6 c κs = search needs
 within-requires-6 : tie.Need-within-requires-6
 within-requires-6 c κs = search needs
 
+field-requires-7 : tie.Need-field-requires-7
+field-requires-7 c κs = search needs
+
+within-requires-7 : tie.Need-within-requires-7
+within-requires-7 c κs = search needs
+
 slice-relend-prefix-replay : tie.Need-slice-relend-prefix-replay
 slice-relend-prefix-replay c = search needs
 
@@ -78,6 +84,12 @@ slice-relend-prefix-replay-6 c = search needs
 slice-aggregate-replay-6 : tie.Need-slice-aggregate-replay-6
 slice-aggregate-replay-6 c = simp length-take (omega arith)
 
+slice-relend-prefix-replay-7 : tie.Need-slice-relend-prefix-replay-7
+slice-relend-prefix-replay-7 c = search needs
+
+slice-aggregate-replay-7 : tie.Need-slice-aggregate-replay-7
+slice-aggregate-replay-7 c = simp length-take (omega arith)
+
 replay-requires : tie.Need-replay-requires
 replay-requires c κs = search needs
 
@@ -99,6 +111,9 @@ same-length-5 c = search needs
 same-length-6 : tie.Need-same-length-6
 same-length-6 c = search needs
 
+same-length-7 : tie.Need-same-length-7
+same-length-7 c = search needs
+
 returns : tie.Need-returns
 returns c = search needs
 
@@ -118,6 +133,8 @@ replay-lists-spec =
     within-requires-5
     field-requires-6
     within-requires-6
+    field-requires-7
+    within-requires-7
     slice-relend-prefix-replay
     slice-aggregate-replay
     slice-relend-prefix-replay-2
@@ -130,6 +147,8 @@ replay-lists-spec =
     slice-aggregate-replay-5
     slice-relend-prefix-replay-6
     slice-aggregate-replay-6
+    slice-relend-prefix-replay-7
+    slice-aggregate-replay-7
     replay-requires
     same-length
     same-length-2
@@ -137,4 +156,5 @@ replay-lists-spec =
     same-length-4
     same-length-5
     same-length-6
+    same-length-7
     returns)

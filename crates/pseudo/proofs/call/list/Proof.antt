@@ -18,19 +18,19 @@ enum-known-h c = search needs
 
 cast-list-accepted : tie.Need-cast-list-accepted
 cast-list-accepted c =
-    let yes = accepted ((c .before .before .before .before .before .before .before .before .before .before .before .before .before .before .before .before .before .args) .rec .now) ((c .before .before .before .before .before .before .before .before .before .before .before .before .before .before .before .before .before .args) .from) ((c .before .before .before .before .before .before .before .before .before .before .before .before .before .before .before .before .before .args) .to) _ (sym ((c .before .before .before .before .before .before .before .h) .given .1) ∙ (c .before .before .before .before .before .before .before .before .before .«record») .ensures .answer) in
-    record { fits = ends-small ((c .before .before .before .before .before .before .before .before .before .before .before .before .before .before .before .before .before .args) .rec .now) ((c .before .before .before .before .before .before .before .before .before .before .before .before .before .before .before .before .before .args) .from) ((c .before .before .before .before .before .before .before .before .before .before .before .before .before .before .before .before .before .args) .to) _ yes .0 }
+    let yes = accepted ((c .before .before .before .before .before .before .before .before .before .before .before .before .before .before .before .before .before .before .before .args) .rec .now) ((c .before .before .before .before .before .before .before .before .before .before .before .before .before .before .before .before .before .before .before .args) .from) ((c .before .before .before .before .before .before .before .before .before .before .before .before .before .before .before .before .before .before .before .args) .to) _ (sym ((c .before .before .before .before .before .before .before .before .h) .given .1) ∙ (c .before .before .before .before .before .before .before .before .before .before .«record») .ensures .answer) in
+    record { fits = ends-small ((c .before .before .before .before .before .before .before .before .before .before .before .before .before .before .before .before .before .before .before .args) .rec .now) ((c .before .before .before .before .before .before .before .before .before .before .before .before .before .before .before .before .before .before .before .args) .from) ((c .before .before .before .before .before .before .before .before .before .before .before .before .before .before .before .before .before .before .before .args) .to) _ yes .0 }
 
 cast-list-accepted-2 : tie.Need-cast-list-accepted-2
 cast-list-accepted-2 c =
-    let yes = accepted ((c .before .before .before .before .before .before .before .before .before .before .before .before .before .before .before .before .before .args) .rec .now) ((c .before .before .before .before .before .before .before .before .before .before .before .before .before .before .before .before .before .args) .from) ((c .before .before .before .before .before .before .before .before .before .before .before .before .before .before .before .before .before .args) .to) _ (sym ((c .before .before .before .before .before .before .before .h) .given .1) ∙ (c .before .before .before .before .before .before .before .before .before .«record») .ensures .answer) in
-    record { fits = ends-small ((c .before .before .before .before .before .before .before .before .before .before .before .before .before .before .before .before .before .args) .rec .now) ((c .before .before .before .before .before .before .before .before .before .before .before .before .before .before .before .before .before .args) .from) ((c .before .before .before .before .before .before .before .before .before .before .before .before .before .before .before .before .before .args) .to) _ yes .1 }
+    let yes = accepted ((c .before .before .before .before .before .before .before .before .before .before .before .before .before .before .before .before .before .before .before .args) .rec .now) ((c .before .before .before .before .before .before .before .before .before .before .before .before .before .before .before .before .before .before .before .args) .from) ((c .before .before .before .before .before .before .before .before .before .before .before .before .before .before .before .before .before .before .before .args) .to) _ (sym ((c .before .before .before .before .before .before .before .before .h) .given .1) ∙ (c .before .before .before .before .before .before .before .before .before .before .«record») .ensures .answer) in
+    record { fits = ends-small ((c .before .before .before .before .before .before .before .before .before .before .before .before .before .before .before .before .before .before .before .args) .rec .now) ((c .before .before .before .before .before .before .before .before .before .before .before .before .before .before .before .before .before .before .before .args) .from) ((c .before .before .before .before .before .before .before .before .before .before .before .before .before .before .before .before .before .before .before .args) .to) _ yes .1 }
 
 list-accepted-requires : tie.Need-list-accepted-requires
-list-accepted-requires c κs = accepted ((c .before .before .before .before .before .before .before .before .before .before .before .before .before .before .before .before .before .args) .rec .now) ((c .before .before .before .before .before .before .before .before .before .before .before .before .before .before .before .before .before .args) .from) ((c .before .before .before .before .before .before .before .before .before .before .before .before .before .before .before .before .before .args) .to) _ (sym ((c .before .before .before .before .before .before .before .h) .given .1) ∙ (c .before .before .before .before .before .before .before .before .before .«record») .ensures .answer)
+list-accepted-requires c κs = accepted ((c .before .before .before .before .before .before .before .before .before .before .before .before .before .before .before .before .before .before .before .args) .rec .now) ((c .before .before .before .before .before .before .before .before .before .before .before .before .before .before .before .before .before .before .before .args) .from) ((c .before .before .before .before .before .before .before .before .before .before .before .before .before .before .before .before .before .before .before .args) .to) _ (sym ((c .before .before .before .before .before .before .before .before .h) .given .1) ∙ (c .before .before .before .before .before .before .before .before .before .before .«record») .ensures .answer)
 
 returns : tie.Need-returns
-returns c = promised _ _ _ _ _ _ (called-no ((c .before .before .before .before .before .before .before .before .before .before .before .args) .rec .now) ((c .before .before .before .before .before .before .before .before .before .before .before .args) .from) ((c .before .before .before .before .before .before .before .before .before .before .before .args) .to) _ _ _ _ _ _ _ (sym ((c .before .n) .given .1) ∙ (c .before .before .before .«record») .ensures .answer))
+returns c = promised _ _ _ _ _ _ (called-no ((c .before .before .before .before .before .before .before .before .before .before .before .before .args) .rec .now) ((c .before .before .before .before .before .before .before .before .before .before .before .before .args) .from) ((c .before .before .before .before .before .before .before .before .before .before .before .before .args) .to) _ _ (sym ((c .before .n) .given .1) ∙ (c .before .before .before .«record») .ensures .answer))
 
 same-length : tie.Need-same-length
 same-length c = search needs
@@ -50,8 +50,11 @@ same-length-5 c = search needs
 same-length-6 : tie.Need-same-length-6
 same-length-6 c = search needs
 
+same-length-7 : tie.Need-same-length-7
+same-length-7 c = search needs
+
 returns-2 : tie.Need-returns-2
-returns-2 c = promised _ _ _ _ _ _ (c .before .before .before .before .before .before .before .before .before .before .before .before .list-accepted .ensures)
+returns-2 c = promised _ _ _ _ _ _ (c .before .before .before .before .before .before .before .before .before .before .before .before .before .before .list-accepted .ensures)
 
 pub list-spec : {M : Type 1} → statement M
 list-spec =
@@ -70,4 +73,5 @@ list-spec =
     same-length-4
     same-length-5
     same-length-6
+    same-length-7
     returns-2)

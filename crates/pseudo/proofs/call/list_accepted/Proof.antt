@@ -30,9 +30,9 @@ slice-aggregate-list-range-2 c = search needs
 
 list-range-requires : tie.Need-list-range-requires
 list-range-requires c κs =
-    let h = (c .before .before .before .before .before .before .before .before .before .before .before .before .before .before .before .before .before .before .args) .h in
-    let few = lent (h .instructions) (h .blocks) 288 60 ((c .before .before .before .before .before .before .before .before .if1) .taken) in
-    ((c .before .before .before .before .before .before .before .before .before .before .before .before .before .before .before .before .before .before .pre), (omega (arith, few .0, length-replicate {A = ℕ} 480 0), omega (arith, few .1, length-replicate {A = ℕ} 408 0)))
+    let h = (c .before .before .before .before .before .before .before .before .before .before .before .before .before .before .before .before .before .before .before .before .args) .h in
+    let few = lent (h .instructions) (h .blocks) 288 60 ((c .before .before .before .before .before .before .before .before .before .if1) .taken) in
+    ((c .before .before .before .before .before .before .before .before .before .before .before .before .before .before .before .before .before .before .before .before .pre), (omega (arith, few .0, length-replicate {A = ℕ} 480 0), omega (arith, few .1, length-replicate {A = ℕ} 408 0)))
 
 same-length : tie.Need-same-length
 same-length c = search needs
@@ -52,6 +52,9 @@ same-length-5 c = search needs
 same-length-6 : tie.Need-same-length-6
 same-length-6 c = search needs
 
+same-length-7 : tie.Need-same-length-7
+same-length-7 c = search needs
+
 returns : tie.Need-returns
 returns c = search needs
 
@@ -63,17 +66,14 @@ slice-aggregate-list-range-4 c = search needs
 
 list-range-requires-2 : tie.Need-list-range-requires-2
 list-range-requires-2 c κs =
-    let h = (c .before .before .before .before .before .before .before .before .before .before .before .before .before .before .before .before .before .before .args) .h in
-    let s = (c .before .before .before .before .before .before .before .before .before .before .before .before .before .before .before .before .before .before .args) .rec .now in (
-      (c .before .before .before .before .before .before .before .before .before .before .before .before .before .before .before .before .before .before .pre),
+    let h = (c .before .before .before .before .before .before .before .before .before .before .before .before .before .before .before .before .before .before .before .before .args) .h in
+    let s = (c .before .before .before .before .before .before .before .before .before .before .before .before .before .before .before .before .before .before .before .before .args) .rec .now in (
+      (c .before .before .before .before .before .before .before .before .before .before .before .before .before .before .before .before .before .before .before .before .pre),
       (
-        omega (arith, limits-small h (limits s ((c .before .before .before .before .before .before .before .before .before .before .before .before .before .before .before .before .before .before .args) .from) ((c .before .before .before .before .before .before .before .before .before .before .before .before .before .before .before .before .before .before .args) .to) h ((c .before .before .before .before .before .before .before .before .before .before .before .before .before .before .before .before .before .before .pre))) .blocks, length-replicate {A = ℕ} 1600 0),
-        omega (arith, plan-room s ((c .before .before .before .before .before .before .before .before .before .before .before .before .before .before .before .before .before .before .args) .from) ((c .before .before .before .before .before .before .before .before .before .before .before .before .before .before .before .before .before .before .args) .to) h ((c .before .before .before .before .before .before .before .before .before .before .before .before .before .before .before .before .before .before .pre)), length-replicate {A = ℕ} 900 0),
+        omega (arith, limits-small h (limits s ((c .before .before .before .before .before .before .before .before .before .before .before .before .before .before .before .before .before .before .before .before .args) .from) ((c .before .before .before .before .before .before .before .before .before .before .before .before .before .before .before .before .before .before .before .before .args) .to) h ((c .before .before .before .before .before .before .before .before .before .before .before .before .before .before .before .before .before .before .before .before .pre))) .blocks, length-replicate {A = ℕ} 1600 0),
+        omega (arith, plan-room s ((c .before .before .before .before .before .before .before .before .before .before .before .before .before .before .before .before .before .before .before .before .args) .from) ((c .before .before .before .before .before .before .before .before .before .before .before .before .before .before .before .before .before .before .before .before .args) .to) h ((c .before .before .before .before .before .before .before .before .before .before .before .before .before .before .before .before .before .before .before .before .pre)), length-replicate {A = ℕ} 900 0),
       ),
     )
-
-same-length-7 : tie.Need-same-length-7
-same-length-7 c = search needs
 
 same-length-8 : tie.Need-same-length-8
 same-length-8 c = search needs
@@ -89,6 +89,12 @@ same-length-11 c = search needs
 
 same-length-12 : tie.Need-same-length-12
 same-length-12 c = search needs
+
+same-length-13 : tie.Need-same-length-13
+same-length-13 c = search needs
+
+same-length-14 : tie.Need-same-length-14
+same-length-14 c = search needs
 
 returns-2 : tie.Need-returns-2
 returns-2 c = search needs
@@ -106,14 +112,16 @@ list-accepted-spec =
     same-length-4
     same-length-5
     same-length-6
+    same-length-7
     returns
     slice-aggregate-list-range-3
     slice-aggregate-list-range-4
     list-range-requires-2
-    same-length-7
     same-length-8
     same-length-9
     same-length-10
     same-length-11
     same-length-12
+    same-length-13
+    same-length-14
     returns-2)

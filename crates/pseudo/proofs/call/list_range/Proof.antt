@@ -23,7 +23,7 @@ slice-aggregate-rows : tie.Need-slice-aggregate-rows
 slice-aggregate-rows c = search needs
 
 block-rows-requires : tie.Need-block-rows-requires
-block-rows-requires c κs = counted ((c .before .before .before .before .before .before .before .before .before .before .before .before .before .before .args) .rec .now) ((c .before .before .before .before .before .before .before .before .before .before .before .before .before .before .args) .from) ((c .before .before .before .before .before .before .before .before .before .before .before .before .before .before .args) .to) ((c .before .before .before .before .before .before .before .before .before .before .before .before .before .before .args) .h) ((c .before .before .before .before .before .before .before .before .before .before .before .before .before .before .pre) .0)
+block-rows-requires c κs = counted ((c .before .before .before .before .before .before .before .before .before .before .before .before .before .before .before .args) .rec .now) ((c .before .before .before .before .before .before .before .before .before .before .before .before .before .before .before .args) .from) ((c .before .before .before .before .before .before .before .before .before .before .before .before .before .before .before .args) .to) ((c .before .before .before .before .before .before .before .before .before .before .before .before .before .before .before .args) .h) ((c .before .before .before .before .before .before .before .before .before .before .before .before .before .before .before .pre) .0)
 
 size-requires : tie.Need-size-requires
 size-requires c κs = search needs
@@ -36,12 +36,12 @@ part-u16-requires c κs = search needs
 
 list-planned-requires : tie.Need-list-planned-requires
 list-planned-requires c κs =
-    let h = (c .before .before .before .before .before .before .before .before .before .before .before .before .before .before .before .before .before .before .before .before .before .before .before .before .before .before .before .args) .h in
-    let s = (c .before .before .before .before .before .before .before .before .before .before .before .before .before .before .before .before .before .before .before .before .before .before .before .before .before .before .before .args) .rec .now in
-    let yes = (c .before .before .before .before .before .before .before .before .before .before .before .before .before .before .before .before .before .before .before .before .before .before .before .before .before .before .before .pre) .0 in
+    let h = (c .before .before .before .before .before .before .before .before .before .before .before .before .before .before .before .before .before .before .before .before .before .before .before .before .before .before .before .before .before .args) .h in
+    let s = (c .before .before .before .before .before .before .before .before .before .before .before .before .before .before .before .before .before .before .before .before .before .before .before .before .before .before .before .before .before .args) .rec .now in
+    let yes = (c .before .before .before .before .before .before .before .before .before .before .before .before .before .before .before .before .before .before .before .before .before .before .before .before .before .before .before .before .before .pre) .0 in
     let b =
-    filled (blockRows h s) _ _ _ (8 * (c .before .before .before .before .before .before .before .before .size) .result) (8 * h .blocks) (blocks-length h s) ((c .before .before .before .before .before .before .before .before .before .before .before .before .before .before .before .before .before .before .before .before .before .before .before .before .before .before .before .pre) .1 .0) (omega (arith, (c .before .before .before .before .before .before .before .before .size) .ensures)) ((c .before .before .before .before .before .before .before .before .before .before .before .before .block-rows) .ensures) ((c .before .before .before .before .before .before .before .part-u16) .ensures) in
-    (((c .before .before .before .before .before .before .before .before .before .before .before .before .before .before .before .before .before .tables) .ensures, rising s ((c .before .before .before .before .before .before .before .before .before .before .before .before .before .before .before .before .before .before .before .before .before .before .before .before .before .before .before .args) .from) ((c .before .before .before .before .before .before .before .before .before .before .before .before .before .before .before .before .before .before .before .before .before .before .before .before .before .before .before .args) .to) h yes), ((c .before .before .before .before .before .before .before .before .before .before .before .before .before .before .before .row-table) .ensures, (b, (yes, (c .before .before .before .before .before .before .before .before .before .before .before .before .before .before .before .before .before .before .before .before .before .before .before .before .before .before .before .pre) .1 .1))))
+    filled (blockRows h s) _ _ _ (8 * (c .before .before .before .before .before .before .before .before .before .size) .result) (8 * h .blocks) (blocks-length h s) ((c .before .before .before .before .before .before .before .before .before .before .before .before .before .before .before .before .before .before .before .before .before .before .before .before .before .before .before .before .before .pre) .1 .0) (omega (arith, (c .before .before .before .before .before .before .before .before .before .size) .ensures)) ((c .before .before .before .before .before .before .before .before .before .before .before .before .before .block-rows) .ensures) ((c .before .before .before .before .before .before .before .before .part-u16) .ensures) in
+    (((c .before .before .before .before .before .before .before .before .before .before .before .before .before .before .before .before .before .before .tables) .ensures, rising s ((c .before .before .before .before .before .before .before .before .before .before .before .before .before .before .before .before .before .before .before .before .before .before .before .before .before .before .before .before .before .args) .from) ((c .before .before .before .before .before .before .before .before .before .before .before .before .before .before .before .before .before .before .before .before .before .before .before .before .before .before .before .before .before .args) .to) h yes), ((c .before .before .before .before .before .before .before .before .before .before .before .before .before .before .before .before .row-table) .ensures, (b, (yes, (c .before .before .before .before .before .before .before .before .before .before .before .before .before .before .before .before .before .before .before .before .before .before .before .before .before .before .before .before .before .pre) .1 .1))))
 
 same-length : tie.Need-same-length
 same-length c = search needs
@@ -67,6 +67,9 @@ same-length-7 c = search needs
 same-length-8 : tie.Need-same-length-8
 same-length-8 c = search needs
 
+same-length-9 : tie.Need-same-length-9
+same-length-9 c = search needs
+
 returns : tie.Need-returns
 returns c = search needs
 
@@ -91,4 +94,5 @@ list-range-spec =
     same-length-6
     same-length-7
     same-length-8
+    same-length-9
     returns)

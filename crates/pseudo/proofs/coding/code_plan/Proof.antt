@@ -23,7 +23,7 @@ same-length : tie.Need-same-length
 same-length c = search needs
 
 returns : tie.Need-returns
-returns c = (sizes-are _ _ _ _ _ ((c .before .before .before .before .before .before .before .before .start) .ensures) ((c .before .before .before .before .code-lines) .ensures) ((c .before .before .before .before .before .before .before .before .before .before .before .before .before .before .before .before .pre) .1 .1 .1) ((c .before .before .before .before .before .before .before .before .before .before .before .before .before .before .before .before .args) .plan .now), holds-lines _ _ _ _ _ ((c .before .before .before .before .before .before .before .before .start) .ensures) ((c .before .before .before .before .code-lines) .ensures) ((c .before .before .before .before .before .before .before .before .before .before .before .before .before .before .before .before .pre) .1 .1 .1) ((c .before .before .before .before .code-lines) .kept .0))
+returns c = (sizes-are _ _ _ _ _ ((c .before .before .before .before .before .before .before .before .start) .ensures) ((c .before .before .before .before .code-lines) .ensures) ((c .before .before .before .before .before .before .before .before .before .before .before .before .before .before .before .before .pre) .1 .1 .1) ((c .before .before .before .before .before .before .before .before .before .before .before .before .before .before .before .before .args) .h) ((c .before .before .before .before .before .before .before .before .before .before .before .before .before .before .before .before .args) .plan .now), holds-lines _ _ _ _ _ ((c .before .before .before .before .before .before .before .before .start) .ensures) ((c .before .before .before .before .code-lines) .ensures) ((c .before .before .before .before .before .before .before .before .before .before .before .before .before .before .before .before .pre) .1 .1 .1) ((c .before .before .before .before .code-lines) .kept .0))
 
 pub code-plan-spec : {M : Type 1} → statement M
 code-plan-spec =

@@ -7,11 +7,11 @@ use Rattle.pseudo.proofs.rooms.room_no.Tie as tie
 
 returns : tie.Need-returns
 unfolding roomNo
-returns c = simp (le-leb _ _ ((c .before .before .before .before .before .before .before .before .before .before .before .before .if1) .taken), (c .before .before .before .before .before .before .before .if2) .taken, (c .if3) .taken)
+returns c = simp (le-leb _ _ ((c .before .before .before .before .before .before .before .before .before .before .before .before .before .before .if1) .taken), (c .before .before .before .before .before .before .before .before .before .if2) .taken, (c .if3) .taken)
 
 returns-2 : tie.Need-returns-2
 unfolding roomNo
-returns-2 c = simp (le-leb _ _ ((c .before .before .before .before .before .before .before .before .before .before .before .before .if1) .taken), (c .before .before .before .before .before .before .before .if2) .taken, (c .if3) .left)
+returns-2 c = simp (le-leb _ _ ((c .before .before .before .before .before .before .before .before .before .before .before .before .before .before .if1) .taken), (c .before .before .before .before .before .before .before .before .before .if2) .taken, (c .if3) .left)
 
 returns-3 : tie.Need-returns-3
 unfolding roomNo
