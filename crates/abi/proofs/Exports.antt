@@ -6,11 +6,11 @@ use Prim.Native.Nat.{ℕ}
 use lib.ListN.{set}
 use Rattle.lists.specs.Put.{put}
 use Rattle.lists.specs.PutLaws.{put-cons, put-none}
+use Rattle.rows.specs.Lists.{Lists, numberOf, answerFor}
 use Rattle.record.specs.Asked.{firstNo}
-use Rattle.pseudo.specs.Listed.{Lists}
-use Rattle.pseudo.specs.Called.{numberOf, sizes, answerFor}
+use Rattle.pseudo.specs.Called.{sizes}
 use Rattle.pseudo.specs.Promise.{Promise}
-use Rattle.pseudo.specs.declared.call.Answer.{Answer}
+use Rattle.rows.specs.declared.answer.Answer.{Answer}
 use Rattle.abi.specs.Exported.{sizeList, answered, Exported, Sized}
 
 -- stores one behind the other

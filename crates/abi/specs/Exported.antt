@@ -3,12 +3,12 @@ use Prim.Native.Nat.{ℕ}
 use mathlib.Core.List.{List, [], _∷_}
 use mathlib.Core.Path.{_≡_}
 use Rattle.lists.specs.Put.{put}
+use Rattle.rows.specs.Lists.{Lists, answerFor, numberOf, roomsOf}
 use Rattle.record.specs.Asked.{firstNo}
-use Rattle.pseudo.specs.Listed.{Lists}
-use Rattle.pseudo.specs.Called.{answerFor, numberOf, roomsOf, sizes, callNo}
+use Rattle.pseudo.specs.Called.{sizes, callNo}
 use Rattle.pseudo.specs.Promise.{Promise}
-use Rattle.pseudo.specs.declared.call.Answer.{Answer}
-use Rattle.pseudo.specs.declared.call.Answer.the-variants.{Listed, No}
+use Rattle.rows.specs.declared.answer.Answer.{Answer}
+use Rattle.rows.specs.declared.answer.Answer.the-variants.{Listed, No}
 
 -- "A number comes with all sizes zero"
 abbrev pub sizeList : Answer → List ℕ

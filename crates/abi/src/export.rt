@@ -1,13 +1,12 @@
 // The call over numbers and lists, as C has them.
 use lists::stores::store_u64;
-use pseudo::call::Answer;
 use pseudo::call::list;
 use pseudo::size::size;
+use rows::answer::Answer;
 ghost use mathlib.Core.List.{[], _∷_};
 ghost use mathlib.Core.Path.{_≡_};
 ghost use Rattle.lists.specs.Put.{put};
-ghost use Rattle.pseudo.specs.Listed.{listsOf};
-ghost use Rattle.pseudo.specs.Called.{numberOf};
+ghost use Rattle.rows.specs.Lists.{listsOf, numberOf};
 ghost use Rattle.abi.specs.Exported.{sizeList, Exported, Sized};
 
 // The three sizes from the start of the list on.

@@ -1,7 +1,7 @@
 // The product's functions under their own names: an archive has the exports of its own crate alone.
 use abi::export::cakirotu_list as list;
 use abi::export::cakirotu_size as size;
-ghost use Rattle.pseudo.specs.Listed.{listsOf};
+ghost use Rattle.rows.specs.Lists.{listsOf};
 ghost use Rattle.abi.specs.Exported.{Exported, Sized};
 
 #[no_mangle]

@@ -10,11 +10,12 @@ use borrow.Author.Tests.{leb-true, le-leb, ne-eqb}
 use lib.Dec.{leb}
 use lib.ListN.{length, take, length-take}
 use lib.Seq.{take-all, getD-take}
+use Rattle.lists.specs.Choice.{ask}
 use Rattle.lists.specs.Bytes.{u8At, u16At, u32At}
 use Rattle.record.specs.declared.header.Header.{Header}
 use Rattle.record.specs.Header.{headerOf, fieldsOk, limitsOk}
 use Rattle.record.specs.Layout.{sizeOf, lengthOk}
-use Rattle.record.specs.Asked.{ask, sizesNo, firstNo}
+use Rattle.record.specs.Asked.{sizesNo, firstNo}
 use Rattle.lists.specs.Every.{both-yes}
 use Rattle.pseudo.specs.Called.{callNo}
 use Rattle.page.specs.Page.{refusal}

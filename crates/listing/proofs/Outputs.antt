@@ -10,16 +10,17 @@ use lib.Seq.{take-append-seam}
 use Rattle.lists.specs.Put.{put}
 use Rattle.lists.specs.PutLaws.{put-fits}
 use Rattle.tokens.proofs.ListingLaws.{lines-length}
+use Rattle.rows.specs.Lists.{Lists, listsOf, numberOf, answerFor, left, roomsOf}
 use Rattle.record.specs.Header.{headerOf}
 use Rattle.operand.proofs.Bounds.{AllBytes}
 use Rattle.cfg.specs.Graph.{firstIn}
 use Rattle.flow.specs.Rows.{blockRows}
 use Rattle.flow.specs.Planned.{recordPlan}
-use Rattle.pseudo.specs.declared.rooms.Sizes.{Sizes}
-use Rattle.pseudo.specs.declared.call.Answer.{Answer}
-use Rattle.pseudo.specs.declared.call.Answer.the-variants.{Listed, No}
-use Rattle.pseudo.specs.Listed.{lineAddress, lineMark, Lists, listsOf, recordLines, recordLists}
-use Rattle.pseudo.specs.Called.{numberOf, answerFor, left, roomsOf, sizes, callNo, Called}
+use Rattle.rows.specs.declared.answer.Sizes.{Sizes}
+use Rattle.rows.specs.declared.answer.Answer.{Answer}
+use Rattle.rows.specs.declared.answer.Answer.the-variants.{Listed, No}
+use Rattle.pseudo.specs.Listed.{lineAddress, lineMark, recordLines, recordLists}
+use Rattle.pseudo.specs.Called.{sizes, callNo, Called}
 use Rattle.pseudo.proofs.Answers.{printed-length}
 use Rattle.page.specs.Page.{refusal, linesEnd, pageText}
 use Rattle.page.proofs.Lengths.{page-short}

@@ -8,7 +8,8 @@ use native.Mathlib.Omega.{arith}
 use lib.ListN.{getD}
 use Rattle.pseudo.specs.Called.{callNo}
 use Rattle.pseudo.proofs.Promises.{call-within}
-use Rattle.page.specs.Page.{decimalOf, numbered, refusal, pageText}
+use Rattle.text.specs.Decimal.{decimalOf}
+use Rattle.page.specs.Page.{numbered, refusal, pageText}
 use Rattle.page.proofs.Pieces.{decimal-1, decimal-2}
 use Rattle.listing.specs.Output.{programRooms, outputFor, blocks, recordPage, outputText, Prints}
 use Rattle.listing.proofs.Long.{long-refused, judged}

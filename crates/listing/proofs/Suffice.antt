@@ -8,12 +8,14 @@ use native.Mathlib.Omega.{arith}
 use borrow.Author.Tests.{le-leb}
 use lib.Dec.{leb}
 use lib.ListN.{length, length-map}
+use Rattle.lists.specs.Choice.{ask}
+use Rattle.rows.specs.Lists.{roomNo}
 use Rattle.record.specs.Header.{headerOf}
-use Rattle.record.specs.Asked.{ask, orElse, firstNo}
+use Rattle.record.specs.Asked.{orElse, firstNo}
 use Rattle.flow.specs.Planned.{recordPlan}
 use Rattle.flow.proofs.Bounds.{record-few}
 use Rattle.pseudo.specs.Listed.{lineAddress, recordLists}
-use Rattle.pseudo.specs.Called.{Accepted, roomNo, sizes, callNo}
+use Rattle.pseudo.specs.Called.{Accepted, sizes, callNo}
 use Rattle.pseudo.proofs.Calls.{limits, counted, in-range}
 use Rattle.pseudo.proofs.Promises.{ask-kept, first-kept}
 use Rattle.listing.specs.Output.{programRooms, blocks}

@@ -3,9 +3,10 @@ use Prim.Native.Nat.{ℕ, zero, suc, _≤_, _<_}
 use mathlib.Core.List.{List}
 use mathlib.Core.Path.{_≡_}
 use lib.ListN.{length, take}
+use Rattle.rows.specs.Lists.{Lists}
 use Rattle.record.specs.Header.{headerOf}
-use Rattle.pseudo.specs.declared.rooms.Rooms.{Rooms}
-use Rattle.pseudo.specs.Listed.{Lists, recordLists}
+use Rattle.rows.specs.declared.answer.Rooms.{Rooms}
+use Rattle.pseudo.specs.Listed.{recordLists}
 use Rattle.pseudo.specs.Called.{callNo}
 use Rattle.page.specs.Page.{refusal, pageText}
 use Rattle.listing.specs.declared.Input.{Input}

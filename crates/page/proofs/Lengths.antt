@@ -8,7 +8,8 @@ use native.Mathlib.Decide.{decLt}
 use native.Mathlib.Omega.{arith}
 use lib.ListN.{length, getD, take, length-append, length-replicate, length-take, length-drop}
 use lib.Seq.{slice}
-use Rattle.page.specs.Page.{decimalText, numbered, countLine, lineOf, linesEnd, lineBytes, linesText, pageText}
+use Rattle.text.specs.Decimal.{decimalText}
+use Rattle.page.specs.Page.{numbered, countLine, lineOf, linesEnd, lineBytes, linesText, pageText}
 use Rattle.page.proofs.Pieces.{decimal-1, decimal-2, decimal-3, address-length}
 
 decimal-short : (n : ℕ) → n < 1000 → length (decimalText n) ≤ 3

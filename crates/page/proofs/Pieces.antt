@@ -14,7 +14,8 @@ use Rattle.lists.specs.Put.{put}
 use Rattle.lists.specs.PutLaws.{put-append, put-cons, put-none}
 use Rattle.text.specs.Number.{hexText}
 use Rattle.text.specs.NumberLaws.{hex-64}
-use Rattle.page.specs.Page.{decimalOf, decimalText, lf, numbered, addressText, lineOf, countLine, tokensEnd, linesEnd, lineBytes, linesText, pageText}
+use Rattle.text.specs.Decimal.{decimalOf, decimalText}
+use Rattle.page.specs.Page.{lf, numbered, addressText, lineOf, countLine, tokensEnd, linesEnd, lineBytes, linesText, pageText}
 
 -- what is stored from `at` on, and where it ends
 pub record Puts (at : ℕ) (t : List ℕ) (k : ℕ) (e e′ : List ℕ) : Type 0 where

@@ -4,7 +4,8 @@ use mathlib.Core.Path.{_≡_, refl}
 use mathlib.Core.List.{[], _∷_, _++_}
 use Rattle.lists.specs.Ascii.{ascii}
 use Rattle.text.specs.Number.{digit, hexOf, hexText}
-use Rattle.page.specs.Page.{decimalOf, lf, numbered, refusal, addressText, lineOf, linesText, pageText}
+use Rattle.text.specs.Decimal.{decimalOf}
+use Rattle.page.specs.Page.{lf, numbered, refusal, addressText, lineOf, linesText, pageText}
 
 worked-refusal : refusal 12 ≡ ascii "no 12" ++ lf
 unfolding numbered decimalOf

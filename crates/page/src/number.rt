@@ -5,7 +5,8 @@ ghost use mathlib.Core.Path.{_≡_};
 ghost use Prim.Native.Nat.{_+_, _<_, _≤_};
 ghost use lib.ListN.{length};
 ghost use Rattle.lists.specs.Put.{put};
-ghost use Rattle.page.specs.Page.{decimalText, numbered, refusal};
+ghost use Rattle.text.specs.Decimal.{decimalText};
+ghost use Rattle.page.specs.Page.{numbered, refusal};
 
 // Answers where the number ends. Line counts and refusals are below 1,000.
 fn put_decimal(out: &mut [u8], at: usize, n: usize) -> usize

@@ -14,17 +14,18 @@ use Rattle.lists.specs.PutLaws.{put-fits}
 use Rattle.tokens.specs.Token.{Token}
 use Rattle.tokens.specs.Listing.{listing}
 use Rattle.tokens.proofs.ListingLaws.{lines-length, kinds-as-ends}
+use Rattle.rows.specs.Lists.{Lists, roomNo, roomsOf, sizesOf, over, Leaves, Stands}
 use Rattle.record.specs.declared.header.Header.{Header}
 use Rattle.structure.specs.Plan.{Line}
 use Rattle.line.specs.Lines.{lineIn}
 use Rattle.line.specs.Print.{maskAfter, printed}
-use Rattle.pseudo.specs.Listed.{lineAddress, lineMark, linePlace, Lists, listsFor, planLists}
+use Rattle.pseudo.specs.Listed.{lineAddress, lineMark, linePlace, listsFor, planLists}
 use Rattle.lists.specs.Every.{both-yes}
 use Rattle.record.proofs.AskedLaws.{passed}
-use Rattle.pseudo.specs.Called.{roomNo, roomsOf, sizesOf, over, Stands, Leaves, PlanListed}
+use Rattle.pseudo.specs.Called.{PlanListed}
 use Rattle.pseudo.specs.Coded.{Holds}
-use Rattle.pseudo.specs.declared.rooms.Sizes.{Sizes}
-use Rattle.pseudo.specs.declared.call.Answer.the-variants.{Listed, No}
+use Rattle.rows.specs.declared.answer.Sizes.{Sizes}
+use Rattle.rows.specs.declared.answer.Answer.the-variants.{Listed, No}
 
 -- each list has room for its part
 record Fit (new b : Lists) : Type 0 where

@@ -11,6 +11,7 @@ use lib.ListN.{length, take, length-map}
 use Rattle.lists.specs.Bytes.{u32At}
 use Rattle.lists.specs.Put.{put}
 use Rattle.lists.specs.SignedLaws.{signed-abs}
+use Rattle.rows.specs.Lists.{Lists, sizesOf, answerFor}
 use Rattle.record.specs.declared.header.Header.{Header}
 use Rattle.record.specs.declared.asked.Asked.{Asked}
 use Rattle.record.specs.declared.asked.Asked.the-variants as case
@@ -34,12 +35,12 @@ use Rattle.line.proofs.Longest.{printed-fits}
 use Rattle.line.specs.Lines.{lineIn, lines-again}
 use Rattle.line.specs.Print.{printed}
 use Rattle.record.proofs.AskedLaws.{yes-limits, yes-marks, yes-range}
-use Rattle.pseudo.specs.Listed.{Lists, planLists, recordLines}
+use Rattle.pseudo.specs.Listed.{planLists, recordLines}
 use Rattle.pseudo.specs.Marks.{Indented}
-use Rattle.pseudo.specs.Called.{Accepted, PlanListed, callNo, Called, sizesOf, sizes, answerFor}
-use Rattle.pseudo.specs.declared.rooms.Sizes.{Sizes}
-use Rattle.pseudo.specs.declared.call.Answer.{Answer}
-use Rattle.pseudo.specs.declared.call.Answer.the-variants.{Listed, No}
+use Rattle.pseudo.specs.Called.{Accepted, PlanListed, callNo, Called, sizes}
+use Rattle.rows.specs.declared.answer.Sizes.{Sizes}
+use Rattle.rows.specs.declared.answer.Answer.{Answer}
+use Rattle.rows.specs.declared.answer.Answer.the-variants.{Listed, No}
 use Rattle.pseudo.proofs.Answers.{refused}
 
 -- ---- what an accepted record has

@@ -8,6 +8,7 @@ use mathlib.Core.Path.{_≡_, refl, sym, ap, _∙_}
 use native.Mathlib.Omega.{arith}
 use lib.ListN.{length, length-map}
 use Rattle.lists.specs.Choice.{pick}
+use Rattle.rows.specs.Lists.{Lists}
 use Rattle.record.specs.declared.header.Header.{Header}
 use Rattle.record.specs.Header.{headerOf}
 use Rattle.record.specs.Layout.{startsOf, marksOf, targetsOf, addressesOf}
@@ -26,7 +27,7 @@ use Rattle.flow.specs.Planned.{recordPlan}
 use Rattle.flow.proofs.Bounds.{record-demand3, record-shallow, many-within}
 use Rattle.flow.proofs.Silenced.{unsilent-is, plain-jmps}
 use Rattle.tokens.proofs.ListingLaws.{lines-length}
-use Rattle.pseudo.specs.Listed.{addressFor, lineAddress, markFor, lineMark, linePlace, Lists, recordLines, recordLists}
+use Rattle.pseudo.specs.Listed.{addressFor, lineAddress, markFor, lineMark, linePlace, recordLines, recordLists}
 use Rattle.pseudo.specs.Called.{Accepted}
 use Rattle.pseudo.specs.Demand.{entriesOf, staying, starting, indentIn, NestedBy, RisingBy, ShallowBy, whatOf, placed, notSilent, LinesDemand3}
 use Rattle.pseudo.proofs.Answers.{printed-length}

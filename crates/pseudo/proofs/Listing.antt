@@ -19,13 +19,13 @@ use Rattle.writer.specs.Written.{page, start, onPage, Room, Listed, Ready}
 use Rattle.writer.specs.declared.write.Cursor.{Cursor}
 use Rattle.writer.proofs.Listed.{room-listed}
 use Rattle.writer.proofs.Turns.{lines-room, turn-page, turn-room, turns-done}
+use Rattle.rows.specs.Lists.{Lists, listsOf, sizesOf, Stands}
 use Rattle.record.specs.declared.header.Header.{Header}
 use Rattle.line.specs.Fits.{Short, Fits}
 use Rattle.line.specs.Lines.{lineIn}
 use Rattle.line.specs.Print.{lineTokens, maskAfter, printed}
 use Rattle.line.proofs.CodedTurns.{printed-step}
-use Rattle.pseudo.specs.Listed.{lineAddress, Lists, listsOf, listsFor}
-use Rattle.pseudo.specs.Called.{sizesOf, Stands}
+use Rattle.pseudo.specs.Listed.{lineAddress, listsFor}
 use Rattle.pseudo.specs.Coded.{HoldsLines, Holds, Printed}
 
 -- ---- the sizes of a listing, by what its lines have

@@ -9,22 +9,24 @@ use native.Mathlib.Omega.{arith}
 use lib.ListN.{length, take, drop, length-map}
 use lib.Seq.{take-append-le, take-all}
 use lib.Dec.{leb}
+use Rattle.lists.specs.Choice.{ask}
+use Rattle.rows.specs.Lists.{Lists, listsOf, numberOf, roomNo, answerFor, over, Leaves, roomsOf, valuesOf}
 use Rattle.record.specs.Header.{headerOf, headerFits, fieldsOk, limitsOk}
 use Rattle.record.specs.Layout.{lengthOk}
-use Rattle.record.specs.Asked.{ask, orElse, sizesNo, marksAsked, startsAsked, edgeKindsAsked, bodiesAsked, branchesAsked, atlasAsked, spansAsked, blocksNo, contentsNo, rangeNo, firstNo}
+use Rattle.record.specs.Asked.{orElse, sizesNo, marksAsked, startsAsked, edgeKindsAsked, bodiesAsked, branchesAsked, atlasAsked, spansAsked, blocksNo, contentsNo, rangeNo, firstNo}
 use Rattle.record.proofs.AskedLaws.{later}
 use Rattle.tokens.specs.Token.{Token}
 use Rattle.tokens.specs.Listing.{join, listing}
-use Rattle.pseudo.specs.Listed.{lineAddress, Lists, listsOf, recordLines, recordLists}
+use Rattle.pseudo.specs.Listed.{lineAddress, recordLines, recordLists}
 use Rattle.flow.specs.Planned.{recordPlan}
 use Rattle.line.specs.Shown.{ConditionsShown, CallsShown}
-use Rattle.pseudo.specs.Called.{numberOf, roomNo, answerFor, over, Leaves, roomsOf, sizes, callNo, Called}
+use Rattle.pseudo.specs.Called.{sizes, callNo, Called}
 use Rattle.pseudo.specs.Demand.{LinesDemand3}
 use Rattle.pseudo.specs.Loops.{LoopsClose}
-use Rattle.pseudo.specs.Promise.{valuesOf, held, Promise}
-use Rattle.pseudo.specs.declared.rooms.Sizes.{Sizes}
-use Rattle.pseudo.specs.declared.rooms.Rooms.{Rooms}
-use Rattle.pseudo.specs.declared.call.Answer.{Answer}
+use Rattle.pseudo.specs.Promise.{held, Promise}
+use Rattle.rows.specs.declared.answer.Sizes.{Sizes}
+use Rattle.rows.specs.declared.answer.Rooms.{Rooms}
+use Rattle.rows.specs.declared.answer.Answer.{Answer}
 use Rattle.tokens.proofs.Lines.{lines-back}
 use Rattle.line.proofs.LinesShown.{conditions-shown, calls-shown}
 use Rattle.pseudo.proofs.Answers.{printed-length}

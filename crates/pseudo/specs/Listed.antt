@@ -5,6 +5,7 @@ use mathlib.Core.List.{List, map}
 use Rattle.lists.specs.Choice.{pick}
 use Rattle.tokens.specs.Token.{Token}
 use Rattle.tokens.specs.Listing.{listing}
+use Rattle.rows.specs.Lists.{Lists, listsOf}
 use Rattle.record.specs.declared.header.Header.{Header}
 use Rattle.record.specs.Layout.{startsOf, addressesOf}
 use Rattle.record.specs.Blocks.{startAt}
@@ -36,20 +37,6 @@ lineMark l = markFor (l .what) (l .indent)
 -- closing brace that of the block whose branch opened it, a while-line that of the loop's last block."
 abbrev pub linePlace : Line → ℕ
 linePlace l = l .place
-
--- "Lists filled: text; token ends (u32) beside kinds ..; line addresses .. beside u16 marks .. and u32 token ends."
--- #107, of the places: "It is a further u16 list beside the line marks."
-pub record Lists : Type 0 where
-  pub text : List ℕ
-  pub ends : List ℕ
-  pub kinds : List ℕ
-  pub addresses : List ℕ
-  pub marks : List ℕ
-  pub places : List ℕ
-  pub lines : List ℕ
-
-abbrev pub listsOf : (text ends kinds addresses marks places lines : List ℕ) → Lists
-listsOf x e k a m p l = record { text = x; ends = e; kinds = k; addresses = a; marks = m; places = p; lines = l }
 
 -- the lists of a plan's lines, from the tokens of each
 abbrev pub listsFor : Header → List ℕ → List (List Token) → List Line → Lists

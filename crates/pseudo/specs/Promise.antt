@@ -5,21 +5,14 @@ use mathlib.Core.Path.{_≡_}
 use lib.ListN.{take}
 use Rattle.tokens.specs.Token.{Token}
 use Rattle.tokens.specs.Lines.{linesIn}
+use Rattle.rows.specs.Lists.{Lists, numberOf, valuesOf}
+use Rattle.rows.specs.declared.answer.Answer.{Answer}
 use Rattle.record.specs.Header.{headerOf}
 use Rattle.flow.specs.Planned.{recordPlan}
 use Rattle.line.specs.Shown.{ConditionsShown, CallsShown}
-use Rattle.pseudo.specs.Listed.{Lists}
-use Rattle.pseudo.specs.Called.{numberOf, Called}
+use Rattle.pseudo.specs.Called.{Called}
 use Rattle.pseudo.specs.Demand.{LinesDemand3}
 use Rattle.pseudo.specs.Loops.{LoopsClose}
-use Rattle.pseudo.specs.declared.rooms.Sizes.{Sizes}
-use Rattle.pseudo.specs.declared.call.Answer.{Answer}
-use Rattle.pseudo.specs.declared.call.Answer.the-variants.{Listed, No}
-
--- "A listing's answer is 0 and the sizes"; "A number comes with all sizes zero"
-abbrev pub valuesOf : Answer → Sizes
-valuesOf (Listed z) = z
-valuesOf (No n) = record { text = 0; tokens = 0; lines = 0 }
 
 -- the lines of tokens that the lists hold
 abbrev pub held : Lists → Answer → List (List Token)

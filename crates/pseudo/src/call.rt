@@ -1,9 +1,6 @@
 // The call that lists a range.
 use crate::coding::code_plan;
 use crate::marks::put_marks;
-use crate::rooms::Rooms;
-use crate::rooms::Sizes;
-use crate::rooms::room_no;
 use crate::writing::write_plan;
 use codes::tables::isa_of;
 use codes::tables::tables;
@@ -17,27 +14,25 @@ use record::asked::Asked;
 use record::asked::record;
 use record::header::Header;
 use record::layout::size;
+use rows::answer::Answer;
+use rows::answer::Rooms;
+use rows::answer::Sizes;
+use rows::answer::room_no;
 ghost use mathlib.Core.List.{map};
 ghost use mathlib.Core.Path.{_≡_};
 ghost use Prim.Native.Nat.{_+_, _*_, _≤_};
 ghost use lib.ListN.{length};
 ghost use Rattle.codes.specs.Tables.{tableBytes};
+ghost use Rattle.rows.specs.Lists.{listsOf};
 ghost use Rattle.operand.specs.Lent.{Rising, Lent};
 ghost use Rattle.flow.specs.Rows.{blockRows};
 ghost use Rattle.line.specs.Codes.{rowBytes};
 ghost use Rattle.line.specs.Lines.{lineIn};
 ghost use Rattle.line.specs.Print.{printed};
 ghost use Rattle.line.specs.Fits.{Fits};
-ghost use Rattle.pseudo.specs.Listed.{listsOf};
 ghost use Rattle.pseudo.specs.Marks.{Indented};
 ghost use Rattle.pseudo.specs.Called.{PlanListed, Accepted, Called};
 ghost use Rattle.pseudo.specs.Promise.{Promise};
-
-// A listing with its sizes, or the number of the question that got a no.
-pub enum Answer {
-    Listed(Sizes),
-    No(u8),
-}
 
 // The listing of a plan by way of its codes, if the lists have room for it: no list but that of the codes is touched before they are asked.
 fn list_coded(

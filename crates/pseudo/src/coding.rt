@@ -1,10 +1,11 @@
 // The codes of a plan's lines: they tell the sizes before any lent list is touched.
-use crate::rooms::Sizes;
 use codes::state::start;
 use line::coded::code_lines;
 use record::header::Header;
+use rows::answer::Sizes;
 ghost use mathlib.Core.List.{map};
 ghost use mathlib.Core.Path.{_≡_};
+ghost use Rattle.rows.specs.Lists.{sizesOf};
 ghost use Rattle.operand.specs.Lent.{Lent};
 ghost use Rattle.flow.specs.Rows.{blockRows};
 ghost use Rattle.line.specs.Codes.{rowBytes};
@@ -12,7 +13,6 @@ ghost use Rattle.line.specs.Fits.{Fits};
 ghost use Rattle.line.specs.Lines.{lineIn};
 ghost use Rattle.line.specs.Print.{printed};
 ghost use Rattle.pseudo.specs.Listed.{planLists};
-ghost use Rattle.pseudo.specs.Called.{sizesOf};
 ghost use Rattle.pseudo.specs.Coded.{HoldsLines};
 
 // Codes the lines, and answers how much they have, whether or not the list has room for all codes.

@@ -2,6 +2,5 @@
 pub mod call;
 pub mod coding;
 pub mod marks;
-pub mod rooms;
 pub mod size;
 pub mod writing;

@@ -1,7 +1,5 @@
 // The call that only sizes a listing.
-use crate::call::Answer;
 use crate::coding::code_plan;
-use crate::rooms::Sizes;
 use codes::tables::isa_of;
 use codes::tables::tables;
 use flow::planned::plan_record;
@@ -14,9 +12,12 @@ use record::asked::Asked;
 use record::asked::record;
 use record::header::Header;
 use record::layout::size as wide;
+use rows::answer::Answer;
+use rows::answer::Sizes;
 ghost use mathlib.Core.List.{map};
 ghost use mathlib.Core.Path.{_≡_};
 ghost use Rattle.codes.specs.Tables.{tableBytes};
+ghost use Rattle.rows.specs.Lists.{sizesOf, answerFor};
 ghost use Rattle.operand.specs.Lent.{Rising};
 ghost use Rattle.record.specs.Asked.{firstNo};
 ghost use Rattle.flow.specs.Rows.{blockRows};
@@ -25,7 +26,7 @@ ghost use Rattle.line.specs.Codes.{rowBytes};
 ghost use Rattle.line.specs.Lines.{lineIn};
 ghost use Rattle.line.specs.Print.{printed};
 ghost use Rattle.pseudo.specs.Listed.{planLists};
-ghost use Rattle.pseudo.specs.Called.{Accepted, sizesOf, sizes, answerFor};
+ghost use Rattle.pseudo.specs.Called.{Accepted, sizes};
 
 // How much a plan's lines have: their codes tell, in a list with room for none of them.
 fn size_plan(

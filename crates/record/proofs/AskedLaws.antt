@@ -7,12 +7,13 @@ use Prim.Native.Nat.{ℕ, zero, suc, _≤_}
 use native.Mathlib.Omega.{arith}
 use borrow.Author.Tests.{leb-true}
 use lib.Dec.{leb}
+use Rattle.lists.specs.Choice.{ask}
 use Rattle.lists.specs.Every.{both-yes}
 use Rattle.record.specs.declared.header.Header.{Header}
 use Rattle.record.specs.Header.{headerOf, headerFits, fieldsOk, limitsOk}
 use Rattle.record.specs.Layout.{lengthOk, marksOf}
 use Rattle.record.specs.Blocks.{marksOk}
-use Rattle.record.specs.Asked.{ask, orElse, sizesNo, marksAsked, startsAsked, edgeKindsAsked, bodiesAsked, branchesAsked, atlasAsked, spansAsked, blocksNo, contentsNo, rangeNo, firstNo}
+use Rattle.record.specs.Asked.{orElse, sizesNo, marksAsked, startsAsked, edgeKindsAsked, bodiesAsked, branchesAsked, atlasAsked, spansAsked, blocksNo, contentsNo, rangeNo, firstNo}
 
 pub later : (a b : ℕ) → orElse a b ≡ 0 → (a ≡ 0) × (b ≡ 0)
 later zero b h = (refl, h)

@@ -4,6 +4,7 @@ use mathlib.Core.List.{List}
 use mathlib.Core.Bool.{Bool, true, false, _&&_}
 use mathlib.Core.Path.{_≡_}
 use lib.Dec.{leb}
+use Rattle.lists.specs.Choice.{ask}
 use Rattle.x86.specs.Registers.{registerExists}
 use Rattle.record.specs.Header.{headerOf, headerFits, fieldsOk, limitsOk}
 use Rattle.record.specs.Layout.{lengthOk, startsOf, marksOf, targetsOf, edgeKindsOf, bodiesOf, entriesOf, pairsOf, spansOf, textsOf}
@@ -14,11 +15,6 @@ use Rattle.record.specs.Atlas.{atlasOk, spansOk}
 use Rattle.record.specs.declared.header.Header.{Header}
 use Rattle.record.specs.declared.asked.Asked.{Asked}
 use Rattle.record.specs.declared.asked.Asked.the-variants.{Yes, No}
-
--- "The first no gives the number": question n's, or what the later questions say
-abbrev pub ask : ℕ → Bool → ℕ → ℕ
-ask n true later = later
-ask n false later = n
 
 -- a stage's number, or where it has none what the later stages say
 abbrev pub orElse : ℕ → ℕ → ℕ

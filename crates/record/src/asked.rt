@@ -22,7 +22,8 @@ use crate::layout::texts_at;
 use lists::reads::from;
 use x86::registers::register_exists;
 ghost use mathlib.Core.Path.{_≡_};
-ghost use Rattle.record.specs.Asked.{ask, sizesNo, marksAsked, startsAsked, edgeKindsAsked, bodiesAsked, branchesAsked, atlasAsked, spansAsked, blocksNo, contentsNo, rangeNo, Answered};
+ghost use Rattle.lists.specs.Choice.{ask};
+ghost use Rattle.record.specs.Asked.{sizesNo, marksAsked, startsAsked, edgeKindsAsked, bodiesAsked, branchesAsked, atlasAsked, spansAsked, blocksNo, contentsNo, rangeNo, Answered};
 
 // The answer: the header of a record that may be listed, or the number of the question that got a no.
 pub enum Asked {

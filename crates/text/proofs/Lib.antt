@@ -1,3 +1,4 @@
 pub mod LiteralLaws
 pub mod DigitLaws
 pub mod ByteLaws
+pub mod DecimalLaws

@@ -14,24 +14,24 @@ use Rattle.tokens.specs.Listing.{textOf, endsFrom, kindsOf, join, all, c
 use Rattle.tokens.specs.Lines.{endAt, between, tokenAt, lineAt, linesIn}
 
 -- ---- what is left of a list
-first : (l : List ℕ) (j a : ℕ) (r : List ℕ) → drop j l ≡ a ∷ r → getD l j 0 ≡ a
+pub first : (l : List ℕ) (j a : ℕ) (r : List ℕ) → drop j l ≡ a ∷ r → getD l j 0 ≡ a
 first l j a r h = ap (λ (k : ℕ). getD l k 0) (sym (add-zero j)) ∙ sym (getD-drop j l 0 0) ∙ ap (λ (s : List ℕ). getD s 0 0) h
 
-behind : (l : List ℕ) (j a : ℕ) (r : List ℕ) → drop j l ≡ a ∷ r → drop (suc j) l ≡ r
+pub behind : (l : List ℕ) (j a : ℕ) (r : List ℕ) → drop j l ≡ a ∷ r → drop (suc j) l ≡ r
 behind l j a r h = ap (λ (k : ℕ). drop k l) (sym (add-one j)) ∙ sym (drop-drop 1 j l) ∙ ap (λ (s : List ℕ). drop 1 s) h
 
-further : (l : List ℕ) (x : ℕ) (s r : List ℕ) → drop x l ≡ s ++ r → drop (x + length s) l ≡ r
+pub further : (l : List ℕ) (x : ℕ) (s r : List ℕ) → drop x l ≡ s ++ r → drop (x + length s) l ≡ r
 further l x s r h = sym (drop-drop (length s) x l) ∙ ap (drop (length s)) h ∙ drop-append-seam s r
 
 -- ---- entries one after the other, in two parts
-tab-append : {A : Type 0} (f : ℕ → A) (a m n : ℕ) → tab f a (m + n) ≡ tab f a m ++ tab f (a + m) n
+pub tab-append : {A : Type 0} (f : ℕ → A) (a m n : ℕ) → tab f a (m + n) ≡ tab f a m ++ tab f (a + m) n
 tab-append f a zero n = rw (zero-add, add-zero)
 tab-append f a (suc m) n =
     let e : suc m + n ≡ suc (m + n) = omega arith in
     let d : suc a + m ≡ a + suc m = omega arith in
     rw e (ap (λ l. f a ∷ l) (tab-append f (suc a) m n ∙ rw d))
 
-tab-length : {A : Type 0} (f : ℕ → A) (a n : ℕ) → length (tab f a n) ≡ n
+pub tab-length : {A : Type 0} (f : ℕ → A) (a n : ℕ) → length (tab f a n) ≡ n
 tab-length f a zero = refl
 tab-length f a (suc n) = ap suc (tab-length f (suc a) n)
 
@@ -43,7 +43,7 @@ right-part s t u v e q = sym (drop-at s t (length u) e) ∙ ap (drop (length u))
 
 -- ---- tokens
 module _ (text ends kinds : List ℕ) where
-  tokens-back : (ts : List Token) (j x : ℕ) (u v w : List ℕ) → endAt ends j ≡ x → drop x text ≡ textOf ts ++ u → drop j ends ≡ endsFrom x ts ++ v
+  pub tokens-back : (ts : List Token) (j x : ℕ) (u v w : List ℕ) → endAt ends j ≡ x → drop x text ≡ textOf ts ++ u → drop j ends ≡ endsFrom x ts ++ v
       → drop j kinds ≡ kindsOf ts ++ w → tab (tokenAt text ends kinds) j (length ts) ≡ ts
   unfolding textOf endsFrom kindsOf tokenAt
   tokens-back [] j x u v w e p q r = refl
@@ -58,22 +58,29 @@ module _ (text ends kinds : List ℕ) where
 
 -- ---- lines
 module _ (text ends kinds lines : List ℕ) where
-  abbrev token-at : ℕ → Token
+  abbrev pub token-at : ℕ → Token
   token-at = tokenAt text ends kinds
+
+  -- the first of the tokens that are left make up the line, and the others are left behind it
+  pub line-first : (ts a : List Token) (i n : ℕ) → endAt lines i ≡ n → getD lines i 0 ≡ n + length ts → tab token-at n (length (ts ++ a)) ≡ ts ++ a
+      → (lineAt text ends kinds lines i ≡ ts) × (tab token-at (n + length ts) (length a) ≡ a)
+  unfolding lineAt
+  line-first ts a i n e g p =
+      let k = length ts in
+      let q : tab token-at n k ++ tab token-at (n + k) (length a) ≡ ts ++ a = sym (tab-append token-at n k (length a)) ∙ ap (tab token-at n) (sym (length-append ts a)) ∙ p in
+      let c = tab-length token-at n k in
+      let d : n + k - n ≡ k = omega arith in
+      (rw (e, g, d, left-part (tab token-at n k) (tab token-at (n + k) (length a)) ts a c q), right-part (tab token-at n k) (tab token-at (n + k) (length a)) ts a c q)
 
   lines-left : (ls : List (List Token)) (i n : ℕ) (u : List ℕ) → endAt lines i ≡ n → tab token-at n (length (all ls)) ≡ all ls
       → drop i lines ≡ countsFrom n ls ++ u → tab (lineAt text ends kinds lines) i (length ls) ≡ map join ls
-  unfolding all countsFrom lineAt
+  unfolding all countsFrom
   lines-left [] i n u e p q = refl
   lines-left (l ∷ ls) i n u e p q =
       let k = length (join l) in
-      let a = all ls in
-      let p′ : tab token-at n k ++ tab token-at (n + k) (length a) ≡ join l ++ a = sym (tab-append token-at n k (length a)) ∙ ap (tab token-at n) (sym (length-append (join l) a)) ∙ p in
-      let c = tab-length token-at n k in
-      let d : n + k - n ≡ k = omega arith in
       let g : getD lines i 0 ≡ n + k = first lines i (n + k) (countsFrom (n + k) ls ++ u) q in
-      let h : lineAt text ends kinds lines i ≡ join l = rw (e, g, d, left-part (tab token-at n k) (tab token-at (n + k) (length a)) (join l) a c p′) in
-      rw (h, lines-left ls (suc i) (n + k) u g (right-part (tab token-at n k) (tab token-at (n + k) (length a)) (join l) a c p′) (behind lines i (n + k) (countsFrom (n + k) ls ++ u) q))
+      let h = line-first (join l) (all ls) i n e g p in
+      rw (h .0, lines-left ls (suc i) (n + k) u g (h .1) (behind lines i (n + k) (countsFrom (n + k) ls ++ u) q))
 
 pub lines-back : (ls : List (List Token)) (u v w y : List ℕ)
     → linesIn (textOf (all ls) ++ u) (endsFrom 0 (all ls) ++ v) (kindsOf (all ls) ++ w) (countsFrom 0 ls ++ y) (length ls) ≡ map join ls

@@ -4,9 +4,9 @@ use mathlib.Core.Path.{_≡_, sym, ap, _∙_}
 use Prim.Native.Nat.{ℕ}
 use mathlib.Core.List.{List}
 use Rattle.lists.specs.Put.{put}
-use Rattle.pseudo.specs.Called.{numberOf}
-use Rattle.pseudo.specs.declared.call.Answer.{Answer}
-use Rattle.pseudo.specs.declared.call.Answer.the-variants.{Listed, No}
+use Rattle.rows.specs.Lists.{numberOf}
+use Rattle.rows.specs.declared.answer.Answer.{Answer}
+use Rattle.rows.specs.declared.answer.Answer.the-variants.{Listed, No}
 use Rattle.abi.specs.Exported.{sizeList}
 use borrow.Author.Needs.{needs}
 use Rattle.abi.proofs.export.put_answer.Statement.{statement}

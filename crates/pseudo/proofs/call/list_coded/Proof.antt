@@ -1,7 +1,7 @@
 -- `list_coded` meets its contract.
 -- By whether there is room for the sizes, which the codes tell.
 use native.Mathlib.Omega.{arith}
-use Rattle.pseudo.specs.Listed.{listsOf}
+use Rattle.rows.specs.Lists.{listsOf}
 use Rattle.pseudo.proofs.Answers.{plan-room, plan-holds, plan-refused, plan-listed}
 use Rattle.pseudo.proofs.Listing.{stands}
 use borrow.Author.Needs.{needs}

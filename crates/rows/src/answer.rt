@@ -1,6 +1,6 @@
-// How much a listing has, how much room was lent, and questions 12 to 14.
+// How much a listing has, how much room was lent, questions 12 to 14, and the answer.
 ghost use mathlib.Core.Path.{_≡_};
-ghost use Rattle.pseudo.specs.Called.{roomNo};
+ghost use Rattle.rows.specs.Lists.{roomNo};
 
 pub struct Sizes {
     pub text: usize,
@@ -37,4 +37,10 @@ pub fn room_no(sizes: Sizes, rooms: Rooms) -> u8
         return 13;
     }
     12
+}
+
+// A listing with its sizes, or the number of the question that got a no.
+pub enum Answer {
+    Listed(Sizes),
+    No(u8),
 }

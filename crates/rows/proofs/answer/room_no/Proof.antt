@@ -1,9 +1,9 @@
 -- Questions 12 to 14: `room_no` meets its contract.
 -- By its tests.
 use borrow.Author.Tests.{le-leb, lt-leb}
-use Rattle.pseudo.specs.Called.{roomNo}
-use Rattle.pseudo.proofs.rooms.room_no.Statement.{statement}
-use Rattle.pseudo.proofs.rooms.room_no.Tie as tie
+use Rattle.rows.specs.Lists.{roomNo}
+use Rattle.rows.proofs.answer.room_no.Statement.{statement}
+use Rattle.rows.proofs.answer.room_no.Tie as tie
 
 returns : tie.Need-returns
 unfolding roomNo
