@@ -48,8 +48,8 @@ module _ (l : Lists) (z : Sizes) where
   pub record Writes (out out′ : List ℕ) (r : Written) : Type 0 where
     pub answer : r ≡ writtenFor (length file) (writeNo (length out))
     pub bytes : out′ ≡ left (writeNo (length out)) file out
-    -- "writing then reading gives the same listing": the rows written are those of a file (so `Reads.rows` speaks of them), and their lists are
-    -- those that were lent
+    -- of "writing then reading gives the same listing" the writer's half: the rows written are good, and their lists are those that were lent.
+    -- `Reads.rows` asks for `writable` rows: that these have text and tokens below 2^32, which u32 ends see to, is not said here yet
     pub rows : writtenNumber r ≡ 0 → goodRows (rowsIn l (z .lines)) ≡ true
     pub same : writtenNumber r ≡ 0 → rowLists (rowsIn l (z .lines)) ≡ cut l z
 
