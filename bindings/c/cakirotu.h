@@ -1,12 +1,14 @@
-/* Cakirotu's library for C: lists blocks of a record as pseudocode. docs/BINDINGS.md says how to build and link.
+/* Cakirotu's library for C: lists blocks of a record as pseudocode, and writes and reads listings as rows for a spreadsheet.
+ * docs/BINDINGS.md says how to build and link.
  *
- * Neither function allocates, keeps a pointer, or holds state between calls; threads may call at once. Any bytes may be lent as
- * a record: every call ends with a listing or a number. Nothing is read or stored past the lengths given.
+ * No function allocates, keeps a pointer, or holds state between calls; threads may call at once. Any bytes may be lent as
+ * a record or as rows, and any lists as a listing: every call ends with what is asked for or with a number. Nothing is read or stored
+ * past the lengths given.
  *
  * Give a thread that calls them 256 KiB of stack or more.
  *
  * What a caller owes: each pointer is aligned for its type and stands for as many entries as its length says; the lists that a call
- * writes overlap neither each other nor the record. A list of length 0 may be NULL. */
+ * writes overlap neither each other nor what it reads. A list of length 0 may be NULL. */
 #ifndef CAKIROTU_H
 #define CAKIROTU_H
 
@@ -35,8 +37,9 @@ enum cakirotu_answer {
     CAKIROTU_NO_TEXT_ROOM = 12,    /* is the text list long enough? */
     CAKIROTU_NO_TOKEN_ROOM = 13,   /* are ends and kinds? */
     CAKIROTU_NO_LINE_ROOM = 14,    /* are addresses, marks, places and lines? */
-    CAKIROTU_NO_BRANCHES = 15      /* asked between 8 and 9: has each block that ends in a conditional near branch one True edge,
+    CAKIROTU_NO_BRANCHES = 15,     /* asked between 8 and 9: has each block that ends in a conditional near branch one True edge,
                                       to the branch's target, and any other block none? */
+    CAKIROTU_NO_ROWS = 16          /* of rows alone, asked before 12: are the bytes rows, do the lists hold lines that rows can carry? */
 };
 
 /* Where the three sizes stand. */
@@ -79,6 +82,41 @@ uint8_t cakirotu_list(const uint8_t *rec, size_t rec_len, size_t from, size_t to
 
 /* The sizes of that listing: lists of just these lengths suffice for cakirotu_list. Answers 0 or a number, none of 12 to 14. */
 uint8_t cakirotu_size(const uint8_t *rec, size_t rec_len, size_t from, size_t to, uint64_t *sizes, size_t sizes_len);
+
+/* The most bytes that rows of a listing of these sizes have.
+ * A line has at most 16 digits of address, 3 of indent and 5 of place, two commas, CR and LF; a token two commas, a letter and two
+ * quotes beside its text, in which every byte may be a quote. */
+#define CAKIROTU_ROWS_BYTES(text, tokens, lines) (2 * (uint64_t)(text) + 5 * (uint64_t)(tokens) + 28 * (uint64_t)(lines))
+
+/* Writes a listing as rows: comma-separated values after RFC 4180, for a spreadsheet. A line is a row: its address as sixteen upper
+ * hexadecimal digits or nothing, its indent, its place, then for each token a letter (X R N K S A P F for kinds 0 to 7) and its text in
+ * double quotes, a quote doubled; CR LF ends it. No lines are an empty file.
+ *
+ * With 0 `out` holds the rows and its bytes past them are as they were; with a number it is as it was and the size is 0.
+ * Answers 0, CAKIROTU_NO_ROWS or CAKIROTU_NO_TEXT_ROOM.
+ *
+ * text to lines  a listing's lists, as cakirotu_list fills them; entries past the sizes are not looked at
+ * sizes          text bytes, tokens, lines; those that a list shorter than 3 lacks count as 0
+ * out            gets the rows; CAKIROTU_ROWS_BYTES of them always suffice
+ * size           gets how many bytes that are, in its first entry
+ *
+ * CAKIROTU_NO_ROWS: a size is above a list's length; ends do not rise from token to token up to the text's size, or lines not from line to
+ * line up to the number of tokens; a kind is above 7, a mark above 511, an indent 255; a line without address has one in the list. */
+uint8_t cakirotu_write_rows(const uint8_t *text, size_t text_len, const uint32_t *ends, size_t ends_len, const uint8_t *kinds,
+                            size_t kinds_len, const uint64_t *addresses, size_t addresses_len, const uint16_t *marks, size_t marks_len,
+                            const uint16_t *places, size_t places_len, const uint32_t *lines, size_t lines_len, const uint64_t *sizes,
+                            size_t sizes_len, uint8_t *out, size_t out_len, uint64_t *size, size_t size_len);
+
+/* Reads rows back into a listing's lists: just those bytes are accepted that cakirotu_write_rows can write. With 0 the lists hold the
+ * listing and their entries past the sizes are as they were; with a number every list is as it was and the sizes are 0.
+ * Answers 0, CAKIROTU_NO_ROWS, or CAKIROTU_NO_TEXT_ROOM, _TOKEN_ROOM or _LINE_ROOM.
+ *
+ * file           the rows; `file_len` bytes of text, a sixth as many tokens and a twelfth as many lines always suffice
+ * text to lines  get the listing, as cakirotu_list fills them
+ * sizes          gets text bytes, tokens, lines; a list shorter than 3 gets the first ones */
+uint8_t cakirotu_read_rows(const uint8_t *file, size_t file_len, uint8_t *text, size_t text_len, uint32_t *ends, size_t ends_len,
+                           uint8_t *kinds, size_t kinds_len, uint64_t *addresses, size_t addresses_len, uint16_t *marks, size_t marks_len,
+                           uint16_t *places, size_t places_len, uint32_t *lines, size_t lines_len, uint64_t *sizes, size_t sizes_len);
 
 #ifdef __cplusplus
 }

@@ -1,5 +1,6 @@
 /* Lists a record file as the program `listing` does: example FILE [FROM TO]
- * Exit status: 0 listed, 1 refused, 2 nothing could be read or printed. */
+ * Prints its rows for a spreadsheet: example rows FILE; lists a file of rows: example back FILE
+ * Exit status: 0 done, 1 refused, 2 nothing could be read or printed. */
 #include "cakirotu.h"
 
 #include <errno.h>
@@ -10,6 +11,9 @@
 
 /* One byte more than a record may have: a longer file is refused by its first bytes. */
 #define MOST 65537
+
+/* One byte more than the program `from_csv` takes. The library has no such limit. */
+#define MOST_ROWS 262145
 
 struct listing {
     uint64_t sizes[CAKIROTU_SIZES];
@@ -33,21 +37,21 @@ static void *need(void *memory) {
 /* Room for n entries. */
 static void *room(uint64_t n, size_t entry) { return need(malloc(n > 0 ? (size_t)n * entry : 1)); }
 
-/* The file's bytes, in memory of just their size. */
-static uint8_t *read_record(const char *name, size_t *len) {
+/* The file's bytes, at most so many, in memory of just their size. */
+static uint8_t *read_file(const char *name, size_t most, size_t *len) {
     FILE *file = fopen(name, "rb");
     if (file == NULL) {
         fprintf(stderr, "example: %s: %s\n", name, strerror(errno));
         exit(2);
     }
-    uint8_t *record = room(MOST, 1);
-    *len = fread(record, 1, MOST, file);
+    uint8_t *bytes = room(most, 1);
+    *len = fread(bytes, 1, most, file);
     if (ferror(file)) {
         fprintf(stderr, "example: %s cannot be read\n", name);
         exit(2);
     }
     fclose(file);
-    return need(realloc(record, *len > 0 ? *len : 1));
+    return need(realloc(bytes, *len > 0 ? *len : 1));
 }
 
 /* How many blocks the header says; any number will do for a record without one, which is refused. */
@@ -100,35 +104,66 @@ static void print(const struct listing *l) {
     }
 }
 
-/* The listing of a range, or the number of the refusal. */
-static uint8_t list(const uint8_t *record, size_t len, size_t from, size_t to) {
+/* The listing of a range, or a number. */
+static uint8_t list(const uint8_t *record, size_t len, size_t from, size_t to, struct listing *l) {
+    uint8_t no = cakirotu_size(record, len, from, to, l->sizes, CAKIROTU_SIZES);
+    lend(l);
+    return no == CAKIROTU_LISTED ? fill(record, len, from, to, l) : no;
+}
+
+static uint8_t print_rows(const struct listing *l) {
+    size_t text = (size_t)l->sizes[CAKIROTU_TEXT_BYTES];
+    size_t tokens = (size_t)l->sizes[CAKIROTU_TOKENS];
+    size_t lines = (size_t)l->sizes[CAKIROTU_LINES];
+    size_t most = (size_t)CAKIROTU_ROWS_BYTES(text, tokens, lines);
+    uint8_t *rows = room(most, 1);
+    uint64_t size;
+    uint8_t no = cakirotu_write_rows(l->text, text, l->ends, tokens, l->kinds, tokens, l->addresses, lines, l->marks, lines, l->places,
+                                     lines, l->lines, lines, l->sizes, CAKIROTU_SIZES, rows, most, &size, 1);
+    fwrite(rows, 1, (size_t)size, stdout);
+    free(rows);
+    return no;
+}
+
+/* The listing of rows, or a number. */
+static uint8_t read_rows(const uint8_t *rows, size_t len, struct listing *l) {
+    size_t tokens = len / 6, lines = len / 12;
+    l->sizes[CAKIROTU_TEXT_BYTES] = len;
+    l->sizes[CAKIROTU_TOKENS] = tokens;
+    l->sizes[CAKIROTU_LINES] = lines;
+    lend(l);
+    return cakirotu_read_rows(rows, len, l->text, len, l->ends, tokens, l->kinds, tokens, l->addresses, lines, l->marks, lines, l->places,
+                              lines, l->lines, lines, l->sizes, CAKIROTU_SIZES);
+}
+
+int main(int argc, char **argv) {
+    int rows = argc == 3 && strcmp(argv[1], "rows") == 0;
+    int back = argc == 3 && strcmp(argv[1], "back") == 0;
+    if (argc != 2 && argc != 4 && !rows && !back) {
+        fputs("usage: example FILE [FROM TO], example rows FILE, example back FILE\n", stderr);
+        return 2;
+    }
+    size_t len;
+    uint8_t *bytes = read_file(argv[rows || back ? 2 : 1], back ? MOST_ROWS : MOST, &len);
     struct listing l;
-    uint8_t no = cakirotu_size(record, len, from, to, l.sizes, CAKIROTU_SIZES);
-    if (no == CAKIROTU_LISTED) {
-        lend(&l);
-        no = fill(record, len, from, to, &l);
-        if (no == CAKIROTU_LISTED) {
-            print(&l);
-        }
-        give_back(&l);
+    uint8_t no;
+    if (back) {
+        no = read_rows(bytes, len, &l);
+    } else {
+        size_t from = argc == 4 ? (size_t)strtoull(argv[2], NULL, 10) : 0;
+        size_t to = argc == 4 ? (size_t)strtoull(argv[3], NULL, 10) : blocks(bytes, len);
+        no = list(bytes, len, from, to, &l);
+    }
+    if (no == CAKIROTU_LISTED && rows) {
+        no = print_rows(&l);
+    } else if (no == CAKIROTU_LISTED) {
+        print(&l);
     }
     if (no != CAKIROTU_LISTED) {
         printf("no %d\n", no);
     }
-    return no;
-}
-
-int main(int argc, char **argv) {
-    if (argc != 2 && argc != 4) {
-        fputs("usage: example FILE [FROM TO]\n", stderr);
-        return 2;
-    }
-    size_t len;
-    uint8_t *record = read_record(argv[1], &len);
-    size_t from = argc == 4 ? (size_t)strtoull(argv[2], NULL, 10) : 0;
-    size_t to = argc == 4 ? (size_t)strtoull(argv[3], NULL, 10) : blocks(record, len);
-    uint8_t no = list(record, len, from, to);
-    free(record);
+    give_back(&l);
+    free(bytes);
     if (fflush(stdout) != 0) {
         fputs("example: standard output cannot be written\n", stderr);
         return 2;

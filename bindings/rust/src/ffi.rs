@@ -1,6 +1,6 @@
-//! The two functions of libabi.a. All unsafe code is here.
+//! The four functions of libabi.a. All unsafe code is here.
 
-use crate::{Blocks, Lists, Refusal, Sizes};
+use crate::{Blocks, Held, Lists, Refusal, Sizes};
 
 #[cfg(not(target_arch = "x86_64"))]
 compile_error!("libabi.a is for x86-64 alone");
@@ -30,6 +30,50 @@ extern "C" {
     ) -> u8;
 
     fn cakirotu_size(rec: *const u8, rec_len: usize, from: usize, to: usize, sizes: *mut u64, sizes_len: usize) -> u8;
+
+    fn cakirotu_write_rows(
+        text: *const u8,
+        text_len: usize,
+        ends: *const u32,
+        ends_len: usize,
+        kinds: *const u8,
+        kinds_len: usize,
+        addresses: *const u64,
+        addresses_len: usize,
+        marks: *const u16,
+        marks_len: usize,
+        places: *const u16,
+        places_len: usize,
+        lines: *const u32,
+        lines_len: usize,
+        sizes: *const u64,
+        sizes_len: usize,
+        out: *mut u8,
+        out_len: usize,
+        size: *mut u64,
+        size_len: usize,
+    ) -> u8;
+
+    fn cakirotu_read_rows(
+        file: *const u8,
+        file_len: usize,
+        text: *mut u8,
+        text_len: usize,
+        ends: *mut u32,
+        ends_len: usize,
+        kinds: *mut u8,
+        kinds_len: usize,
+        addresses: *mut u64,
+        addresses_len: usize,
+        marks: *mut u16,
+        marks_len: usize,
+        places: *mut u16,
+        places_len: usize,
+        lines: *mut u32,
+        lines_len: usize,
+        sizes: *mut u64,
+        sizes_len: usize,
+    ) -> u8;
 }
 
 /// What no call leaves: every call writes its sizes.
@@ -51,6 +95,66 @@ pub fn list(record: &[u8], blocks: Blocks, l: &mut Lists<'_>) -> Result<Sizes, R
             record.len(),
             blocks.from,
             blocks.to,
+            l.text.as_mut_ptr(),
+            l.text.len(),
+            l.ends.as_mut_ptr(),
+            l.ends.len(),
+            l.kinds.as_mut_ptr(),
+            l.kinds.len(),
+            l.addresses.as_mut_ptr(),
+            l.addresses.len(),
+            l.marks.as_mut_ptr(),
+            l.marks.len(),
+            l.places.as_mut_ptr(),
+            l.places.len(),
+            l.lines.as_mut_ptr(),
+            l.lines.len(),
+            sizes.as_mut_ptr(),
+            sizes.len(),
+        )
+    };
+    answer(no, sizes)
+}
+
+pub fn write_rows(l: &Held<'_>, sizes: Sizes, out: &mut [u8]) -> Result<usize, Refusal> {
+    let sizes = [sizes.text, sizes.tokens, sizes.lines].map(|n| n as u64);
+    let mut size = [u64::MAX];
+    // The function is total: it reads the lists and the sizes alone and stores nothing past `out` and the size, which as `&mut` are apart.
+    let no = unsafe {
+        cakirotu_write_rows(
+            l.text.as_ptr(),
+            l.text.len(),
+            l.ends.as_ptr(),
+            l.ends.len(),
+            l.kinds.as_ptr(),
+            l.kinds.len(),
+            l.addresses.as_ptr(),
+            l.addresses.len(),
+            l.marks.as_ptr(),
+            l.marks.len(),
+            l.places.as_ptr(),
+            l.places.len(),
+            l.lines.as_ptr(),
+            l.lines.len(),
+            sizes.as_ptr(),
+            sizes.len(),
+            out.as_mut_ptr(),
+            out.len(),
+            size.as_mut_ptr(),
+            size.len(),
+        )
+    };
+    let [size] = size;
+    answer(no, [size, 0, 0]).map(|sizes| sizes.text)
+}
+
+pub fn read_rows(file: &[u8], l: &mut Lists<'_>) -> Result<Sizes, Refusal> {
+    let mut sizes = UNWRITTEN;
+    // The function is total: it reads the file alone and stores nothing past the lists, which as `&mut` are all apart.
+    let no = unsafe {
+        cakirotu_read_rows(
+            file.as_ptr(),
+            file.len(),
             l.text.as_mut_ptr(),
             l.text.len(),
             l.ends.as_mut_ptr(),

@@ -1,7 +1,9 @@
-//! Lists blocks of an x86 routine's record as pseudocode, by Cakirotu's proved library.
+//! Lists blocks of an x86 routine's record as pseudocode, and writes and reads listings as rows for a spreadsheet, by Cakirotu's proved
+//! library.
 //!
 //! Any bytes may be lent as a record: every call ends with a listing or a [`Refusal`]. [`list`] allocates a [`Listing`] of just
-//! the size needed; [`size`] and [`list_into`] allocate nothing and work on lists that the caller lends.
+//! the size needed; [`size`] and [`list_into`] allocate nothing and work on lists that the caller lends. [`write_rows`] and [`read_rows`]
+//! turn a listing into rows and back, [`write_rows_into`] and [`read_rows_into`] on what the caller lends.
 //!
 //! ```
 //! let record = std::fs::read("no such file").unwrap_or_default();
@@ -13,11 +15,13 @@
 
 mod ffi;
 mod refusal;
+mod rows;
 mod view;
 
 use std::ops::Range;
 
 pub use refusal::Refusal;
+pub use rows::{read_rows, read_rows_into, write_rows, write_rows_into, Held};
 pub use view::{Kind, Line, Lines, Token, Tokens, View};
 
 /// How long a listing is.
@@ -145,6 +149,22 @@ impl Listing {
             marks: &mut self.marks,
             places: &mut self.places,
             lines: &mut self.lines,
+        }
+    }
+
+    /// The first entries of the lists, in memory of just their size.
+    fn cut(self, sizes: Sizes) -> Listing {
+        fn first<T: Copy>(list: &[T], n: usize) -> Box<[T]> {
+            list[..n].into()
+        }
+        Listing {
+            text: first(&self.text, sizes.text),
+            ends: first(&self.ends, sizes.tokens),
+            kinds: first(&self.kinds, sizes.tokens),
+            addresses: first(&self.addresses, sizes.lines),
+            marks: first(&self.marks, sizes.lines),
+            places: first(&self.places, sizes.lines),
+            lines: first(&self.lines, sizes.lines),
         }
     }
 

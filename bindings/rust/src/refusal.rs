@@ -23,11 +23,13 @@ pub enum Refusal {
     LineRoom,
     /// Asked between [`Refusal::Instructions`] and [`Refusal::Atlas`].
     Branches,
+    /// Asked of rows alone, before [`Refusal::TextRoom`].
+    Rows,
 }
 
 impl Refusal {
-    /// Every refusal, in the order in which the questions are asked.
-    pub const ALL: [Refusal; 15] = [
+    /// Every refusal, in the order in which the questions are asked: of a record all but [`Refusal::Rows`], of rows it and those behind it.
+    pub const ALL: [Refusal; 16] = [
         Refusal::Header,
         Refusal::Settings,
         Refusal::Limits,
@@ -40,12 +42,13 @@ impl Refusal {
         Refusal::Atlas,
         Refusal::Spans,
         Refusal::Range,
+        Refusal::Rows,
         Refusal::TextRoom,
         Refusal::TokenRoom,
         Refusal::LineRoom,
     ];
 
-    /// 1 to 15.
+    /// 1 to 16.
     pub fn number(self) -> u8 {
         self as u8
     }
@@ -78,6 +81,7 @@ impl Refusal {
             Refusal::Branches => {
                 "Has each block that ends in a conditional near branch one True edge, to the branch's target, and any other block none?"
             }
+            Refusal::Rows => "Are the bytes rows, or do the lists hold lines that rows can carry?",
         }
     }
 }

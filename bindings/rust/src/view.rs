@@ -1,6 +1,6 @@
 //! A listing line by line, over lists that someone else owns.
 
-use crate::Sizes;
+use crate::{Held, Sizes};
 
 /// What a token is.
 #[derive(Clone, Copy, Debug, PartialEq, Eq, Hash)]
@@ -61,6 +61,12 @@ impl<'a> View<'a> {
 
     pub fn sizes(&self) -> Sizes {
         Sizes { text: self.text.len(), tokens: self.ends.len(), lines: self.lines.len() }
+    }
+
+    /// The lists themselves.
+    pub fn held(&self) -> Held<'a> {
+        let View { text, ends, kinds, addresses, marks, places, lines } = *self;
+        Held { text, ends, kinds, addresses, marks, places, lines }
     }
 
     /// The lines in order.

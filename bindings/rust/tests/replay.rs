@@ -106,6 +106,21 @@ fn size_and_list_agree_with_every_stored_call() {
     }
 }
 
+/// Every stored listing is written as rows and read back: the same listing, the same rows.
+#[test]
+fn every_stored_listing_goes_both_ways() {
+    let mut listings = 0;
+    for (n, case) in cases().iter().enumerate() {
+        let Ok(listing) = cakirotu::list(&case.record, case.range) else { continue };
+        let rows = cakirotu::write_rows(listing.view()).unwrap();
+        let back = cakirotu::read_rows(&rows).unwrap();
+        assert_eq!(back, listing, "case {n}");
+        assert_eq!(cakirotu::write_rows(back.view()), Ok(rows), "case {n}");
+        listings += 1;
+    }
+    assert_eq!(listings, 240);
+}
+
 /// Lines and tokens, put together again, are the whole text.
 #[test]
 fn lines_and_tokens_have_the_whole_text() {

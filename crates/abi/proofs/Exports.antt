@@ -1,4 +1,4 @@
--- What the exported function answers and leaves is what its definition says.
+-- What the exported functions answer and leave is what their definitions say.
 -- The call's answer has the number and the sizes.
 use mathlib.Core.Path.{_≡_, ap, subst, _∙_}
 use mathlib.Core.List.{List, [], _∷_}

@@ -1,2 +1,4 @@
-// The call for callers in other languages.
+// The library for C, Rust and others: the calls over numbers and lists.
 pub mod export;
+pub mod file;
+mod sizes;

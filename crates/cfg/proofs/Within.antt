@@ -46,7 +46,7 @@ closes-some blocks edges i j e =
     ending-some blocks j (λ z. false≢true (rw z at c))
 
 -- what a search for the last one found
-abbrev FoundOk : (ℕ → Bool) → ℕ → ℕ → Found → Type 0
+abbrev pub FoundOk : (ℕ → Bool) → ℕ → ℕ → Found → Type 0
 FoundOk p i n Nothing = Unit {0}
 FoundOk p i n (At j) = (i ≤ j) × (j < i + n) × (p j ≡ true)
 
@@ -54,7 +54,7 @@ wider : (p : ℕ → Bool) (i n : ℕ) (f : Found) → FoundOk p i n f → Found
 wider p i n Nothing h = h
 wider p i n (At j) h = (h .0, omega arith, h .2)
 
-last-ok : (p : ℕ → Bool) (i n : ℕ) → FoundOk p i n (lastFrom p i n)
+pub last-ok : (p : ℕ → Bool) (i n : ℕ) → FoundOk p i n (lastFrom p i n)
 unfolding lastFrom
 last-ok p i zero = tt
 last-ok p i (suc n) = pick-both (FoundOk p i (suc n)) (p (i + n)) (At (i + n)) (lastFrom p i n) (λ e. (omega arith, omega arith, e)) (λ e. wider p i n (lastFrom p i n) (last-ok p i n))

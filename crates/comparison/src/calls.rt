@@ -1,8 +1,11 @@
 // The product's functions under their own names: an archive has the exports of its own crate alone.
 use abi::export::cakirotu_list as list;
 use abi::export::cakirotu_size as size;
+use abi::file::cakirotu_read_rows as read_rows;
+use abi::file::cakirotu_write_rows as write_rows;
 ghost use Rattle.rows.specs.Lists.{listsOf};
 ghost use Rattle.abi.specs.Exported.{Exported, Sized};
+ghost use Rattle.abi.specs.Rows.{RowsWritten, RowsRead};
 
 #[no_mangle]
 pub extern "C" fn cakirotu_list(
@@ -43,4 +46,65 @@ pub extern "C" fn cakirotu_size(rec: &[u8], from: usize, to: usize, sizes: &mut 
     ensures { λ r. ⌜ Sized (now (rec .entry)) from to (now (sizes .entry)) (now (sizes .exit)) r ⌝ }
 {
     size(rec, from, to, sizes)
+}
+
+#[no_mangle]
+pub extern "C" fn cakirotu_write_rows(
+    text: &[u8],
+    ends: &[u32],
+    kinds: &[u8],
+    addresses: &[u64],
+    marks: &[u16],
+    places: &[u16],
+    lines: &[u32],
+    sizes: &[u64],
+    out: &mut [u8],
+    size: &mut [u64],
+) -> u8
+    ensures { λ r. ⌜ RowsWritten
+        (listsOf (now (text .entry)) (now (ends .entry)) (now (kinds .entry)) (now (addresses .entry)) (now (marks .entry)) (now (places .entry)) (now (lines .entry)))
+        (now (sizes .entry)) (now (out .entry)) (now (out .exit)) (now (size .entry)) (now (size .exit)) r ⌝ }
+{
+    write_rows(
+        text,
+        ends,
+        kinds,
+        addresses,
+        marks,
+        places,
+        lines,
+        sizes,
+        out,
+        size,
+    )
+}
+
+#[no_mangle]
+pub extern "C" fn cakirotu_read_rows(
+    file: &[u8],
+    text: &mut [u8],
+    ends: &mut [u32],
+    kinds: &mut [u8],
+    addresses: &mut [u64],
+    marks: &mut [u16],
+    places: &mut [u16],
+    lines: &mut [u32],
+    sizes: &mut [u64],
+) -> u8
+    ensures { λ r. ⌜ RowsRead (now (file .entry))
+        (listsOf (now (text .entry)) (now (ends .entry)) (now (kinds .entry)) (now (addresses .entry)) (now (marks .entry)) (now (places .entry)) (now (lines .entry)))
+        (listsOf (now (text .exit)) (now (ends .exit)) (now (kinds .exit)) (now (addresses .exit)) (now (marks .exit)) (now (places .exit)) (now (lines .exit)))
+        (now (sizes .entry)) (now (sizes .exit)) r ⌝ }
+{
+    read_rows(
+        file,
+        text,
+        ends,
+        kinds,
+        addresses,
+        marks,
+        places,
+        lines,
+        sizes,
+    )
 }

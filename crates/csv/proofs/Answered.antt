@@ -1,65 +1,34 @@
 -- What reading promises, from what its passes ensure.
 -- The rows read are the only ones whose file the bytes are; and lists that begin with those of rows hold them.
 use mathlib.Core.Path.{_≡_, refl, sym, ap, _∙_}
-use mathlib.Core.Bool.{Bool, true, false, _&&_, _||_}
-use mathlib.Core.List.{List, [], _∷_}
-use Prim.Native.Nat.{ℕ, zero, suc, _^_, _≤_}
+use mathlib.Core.Bool.{Bool, true, false, _&&_}
+use mathlib.Core.List.{List}
+use Prim.Native.Nat.{ℕ, zero, suc, _≤_}
 use native.Mathlib.Nat.{zero-add}
 use native.Mathlib.Omega.{arith}
-use lib.Dec.{eqb, ltb, leb}
-use lib.ListN.{length, drop, length-map}
-use borrow.Author.Tests.{leb-true, lt-ltb}
+use lib.Dec.{leb}
+use lib.ListN.{length, length-map}
+use borrow.Author.Tests.{leb-true}
 use Rattle.lists.specs.Choice.{ask}
-use Rattle.lists.specs.Every.{every, both-yes}
+use Rattle.lists.specs.Every.{both-yes}
 use Rattle.lists.specs.Put.{put}
 use Rattle.lists.specs.PutLaws.{put-fits}
-use Rattle.tokens.specs.Token.{Token}
-use Rattle.tokens.specs.Listing.{textOf}
 use Rattle.tokens.proofs.ListingLaws.{ends-length, kinds-length}
 use Rattle.rows.specs.Lists.{Lists, listsOf, numberOf, roomNo, roomsOf, sizesOf, answerFor, over, Leaves, Stands}
-use Rattle.rows.specs.Rows.{Row, rowsIn, allTokens, markOf, rowLists, holdsRows}
+use Rattle.rows.specs.Rows.{Row, allTokens, markOf, rowLists}
 use Rattle.rows.specs.declared.answer.Sizes.{Sizes}
 use Rattle.rows.specs.declared.answer.Rooms.{Rooms}
 use Rattle.rows.specs.declared.answer.Answer.{Answer}
 use Rattle.rows.specs.declared.answer.Answer.the-variants.{Listed, No}
-use Rattle.rows.proofs.Tests.{split, never}
-use Rattle.rows.proofs.Back.{counts-length, fitToken, fitRow, Begins, rows-back, rows-hold}
-use Rattle.csv.specs.Format.{rowsText, some, goodToken, goodRow, goodRows}
+use Rattle.rows.proofs.Tests.{split}
+use Rattle.rows.proofs.Back.{counts-length, leaves-rows}
+use Rattle.csv.specs.Format.{rowsText, goodRows}
 use Rattle.csv.specs.Called.{writable, Reads}
 use Rattle.csv.specs.Reading.{isRows, rowsRead}
 use Rattle.csv.specs.Filling.{sizesRead, Measured, small, countNo}
+use Rattle.csv.proofs.Fit.{rows-fit, writable-good}
 use Rattle.csv.proofs.Sound.{accepted, accepted-good}
 use Rattle.csv.proofs.Complete.{written, read-back}
-
--- ---- good rows can be held
-some-long : {A : Type 0} (l : List A) → some l ≡ true → ltb 0 (length l) ≡ true
-some-long [] h = never h
-some-long (x ∷ l) h = lt-ltb 0 (suc (length l)) (omega arith)
-
-tokens-fit : (ts : List Token) → every goodToken ts ≡ true → every fitToken ts ≡ true
-unfolding goodToken
-tokens-fit [] h = refl
-tokens-fit (t ∷ ts) h =
-    let f = both-yes (goodToken t) (every goodToken ts) h in
-    let g = both-yes (ltb (t .kind) 8) (some (t .bytes)) (f .0) in
-    rw (some-long (t .bytes) (g .1), g .0, tokens-fit ts (f .1))
-
-row-fits : (r : Row) → goodRow r ≡ true → fitRow r ≡ true
-unfolding goodRow
-row-fits r h =
-    let a = ltb (r .address) (2 ^ 64) in
-    let b = r .addressed || eqb (r .address) 0 in
-    let d = leb (r .indent) 254 in
-    let p = leb (r .place) 65535 in
-    let h1 = both-yes (a && b && d && p && some (r .tokens)) (every goodToken (r .tokens)) h in
-    let h2 = both-yes (a && b && d && p) (some (r .tokens)) (h1 .0) in
-    let h3 = both-yes (a && b && d) p (h2 .0) in
-    let h4 = both-yes (a && b) d (h3 .0) in
-    rw (some-long (r .tokens) (h2 .1), h4 .1, both-yes a b (h4 .0) .1, tokens-fit (r .tokens) (h1 .1))
-
-rows-fit : (rs : List Row) → goodRows rs ≡ true → every fitRow rs ≡ true
-rows-fit [] h = refl
-rows-fit (r ∷ rs) h = let f = both-yes (goodRow r) (goodRows rs) h in rw (row-fits r (f .0), rows-fit rs (f .1))
 
 -- ---- the number
 abbrev readNo : List ℕ → Rooms → ℕ
@@ -76,11 +45,9 @@ writable-small rs = rw ends-length
 -- the number of a file of rows, and no other number than 16 of bytes that are none
 module _ (s : List ℕ) (rooms : Rooms) where
   file-no : (rs : List Row) → writable rs ≡ true → rowsText rs ≡ s → (rowsRead s ≡ rs) × (readNo s rooms ≡ roomNo (sizesOf (rowLists rs)) rooms)
-  unfolding writable countNo
+  unfolding countNo
   file-no rs w q =
-      let x = leb (length (textOf (allTokens rs))) 4294967295 in
-      let n = leb (length (allTokens rs)) 4294967295 in
-      let g = both-yes (goodRows rs) x (both-yes (goodRows rs && x) n w .0) .0 in
+      let g = writable-good rs w in
       let e : rowsRead s ≡ rs = ap rowsRead (sym q) ∙ read-back rs g in
       let o : isRows s ≡ true = ap isRows (sym q) ∙ written rs g in
       let z : small true (sizesOf (rowLists rs)) ≡ true = ap (λ (b : Bool). small b (sizesOf (rowLists rs))) (sym g) ∙ sym (writable-small rs) ∙ w in
@@ -202,29 +169,6 @@ same-lists a b x e k d m p l =
     ≡ listsOf (b .text) (b .ends) (b .kinds) (b .addresses) (b .marks) (b .places) (b .lines) = rw (x, e, k, d, m, p, l) in
     z
 
-begins : (rs : List Row) (b a : Lists) (r : Answer) → Leaves 0 (rowLists rs) b a r → Begins rs a
-begins rs b a r v =
-    let n = rowLists rs in
-    record {
-      past = listsOf (drop (length (n .text)) (b .text)) (drop (length (n .ends)) (b .ends)) (drop (length (n .kinds)) (b .kinds))
-          (drop (length (n .addresses)) (b .addresses)) (drop (length (n .marks)) (b .marks)) (drop (length (n .places)) (b .places)) (drop (length (n .lines)) (b .lines));
-      text = v .text;
-      ends = v .ends;
-      kinds = v .kinds;
-      addresses = v .addresses;
-      marks = v .marks;
-      places = v .places;
-      lines = v .lines;
-    }
-
--- the sizes of the rows' lists are the rows' own
-held : (rs : List Row) (a : Lists) → Begins rs a → goodRows rs ≡ true → let z = sizesOf (rowLists rs) in
-    (holdsRows a (z .text) (z .tokens) (z .lines) ≡ true) × (rowsIn a (z .lines) ≡ rs)
-unfolding rowLists
-held rs a b g =
-    let f = rows-fit rs g in
-    rw (ends-length, length-map) (rows-hold rs a b f, rows-back rs a b f)
-
 module _ (s : List ℕ) (b a : Lists) (r : Answer) (v : Leaves (readNo s (roomsOf b)) (rowLists (rowsRead s)) b a r) where
   abbrev no : ℕ
   no = readNo s (roomsOf b)
@@ -242,8 +186,8 @@ module _ (s : List ℕ) (b a : Lists) (r : Answer) (v : Leaves (readNo s (roomsO
         again = λ h.
             let u : Leaves 0 (rowLists (rowsRead s)) b a r = rw (sym number ∙ h) at v in
             let o = room s (roomsOf b) (sym number ∙ h) .rows in
-            let k = held (rowsRead s) a (begins (rowsRead s) b a r u) (accepted-good s o) in
-            rw (u .answer) (k .0, ap rowsText (k .1) ∙ accepted s o);
+            let k = leaves-rows (rowsRead s) b a r u (rows-fit (rowsRead s) (accepted-good s o)) in
+            (k .0, ap rowsText (k .1) ∙ accepted s o);
       }
 
 -- ---- as the code has it: v is the number made of what was counted

@@ -50,10 +50,10 @@ tokens-size (t ∷ ts) =
 
 -- ---- rows
 -- a row besides its tokens, and all rows
-unfoldable frame : Row → ℕ
+unfoldable pub frame : Row → ℕ
 frame r = length (addressText (r .addressed) (r .address)) + length (decimalText (r .indent)) + length (decimalText (r .place)) + 4
 
-unfoldable frames : List Row → ℕ
+unfoldable pub frames : List Row → ℕ
 frames [] = 0
 frames (r ∷ rs) = frame r + frames rs
 
@@ -61,7 +61,7 @@ row-size : (r : Row) → length (rowText r) ≡ frame r + length (tokensText (r 
 unfolding rowText frame
 row-size r = rw (length-append, length-append, length-append, length-append) (omega arith)
 
-rows-size : (rs : List Row) → length (rowsText rs) ≡ frames rs + (5 * length (allTokens rs) + length (doubled (textOf (allTokens rs))))
+pub rows-size : (rs : List Row) → length (rowsText rs) ≡ frames rs + (5 * length (allTokens rs) + length (doubled (textOf (allTokens rs))))
 unfolding rowsText frames allTokens textOf doubled
 rows-size [] = refl
 rows-size (r ∷ rs) =

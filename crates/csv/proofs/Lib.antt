@@ -7,6 +7,9 @@ pub mod Holds
 pub mod Sums
 pub mod Rows
 pub mod FileSize
+pub mod FileBound
+pub mod Fit
+pub mod Holding
 pub mod Good
 pub mod Calls
 pub mod ReadDigits

@@ -1,23 +1,21 @@
 -- Worked examples of rows: document 01's example as a file, and files that are no rows.
 -- Each is computed; that no rows have such a file follows, as the file of good rows is accepted.
 use mathlib.Core.Path.{_≡_, refl, sym, ap, _∙_}
-use mathlib.Core.Bool.{true, false, _&&_}
+use mathlib.Core.Bool.{true, false}
 use mathlib.Core.List.{List, [], _∷_, _++_}
 use Prim.Native.Nat.{ℕ}
 use Prim.Native.String.{String}
-use lib.Dec.{leb}
-use lib.ListN.{length}
 use Rattle.lists.specs.Ascii.{ascii}
-use Rattle.lists.specs.Every.{both-yes}
 use Rattle.text.specs.Decimal.{decimalOf}
 use Rattle.text.specs.Number.{digit, hexDigits}
 use Rattle.tokens.specs.Token.{token, register, keyword, symbol, punct}
 use Rattle.tokens.specs.Listing.{textOf}
 use Rattle.rows.specs.Rows.{Row, row, allTokens}
 use Rattle.rows.proofs.Tests.{never}
-use Rattle.csv.specs.Format.{doubled, tokenText, tokensText, rowText, rowsText, goodToken, goodRow, goodRows}
+use Rattle.csv.specs.Format.{doubled, tokenText, tokensText, rowText, rowsText, goodToken, goodRow}
 use Rattle.csv.specs.Called.{writable}
 use Rattle.csv.specs.Reading.{add, rest, isRows, rowsRead}
+use Rattle.csv.proofs.Fit.{writable-good}
 use Rattle.csv.proofs.Complete.{written}
 
 -- ---- document 01's example
@@ -72,12 +70,7 @@ abbrev NoRows : List ℕ → Type 0
 NoRows s = (rs : List Row) → writable rs ≡ true → rowsText rs ≡ s → ⊥
 
 none : (s : List ℕ) → isRows s ≡ false → NoRows s
-unfolding writable
-none s h rs w e =
-    let x = leb (length (textOf (allTokens rs))) 4294967295 in
-    let n = leb (length (allTokens rs)) 4294967295 in
-    let g = both-yes (goodRows rs) x (both-yes (goodRows rs && x) n w .0) .0 in
-    never (sym h ∙ ap isRows (sym e) ∙ written rs g)
+none s h rs w e = never (sym h ∙ ap isRows (sym e) ∙ written rs (writable-good rs w))
 
 leading-zero : NoRows (line ",01,0,X,\"a\"")
 unfolding line rest add

@@ -1,8 +1,8 @@
 // The fields of a row. There is room for each: a writer is told where its text begins, and answers where it ends.
-use crate::numbers::put_decimal;
 use crate::numbers::put_sixteen;
 use lists::reads::u8_at;
 use lists::stores::store;
+use text::decimal::put_decimal;
 ghost use mathlib.Core.Path.{_≡_};
 ghost use Prim.Native.Nat.{_+_, _≤_};
 ghost use lib.ListN.{length};

@@ -1,8 +1,8 @@
 // The size of a file of rows: what each row has besides its tokens, what each token has besides its text, and the texts.
-use crate::numbers::decimal_length;
 use lists::parts::part;
 use lists::reads::u16_in;
 use rows::answer::Sizes;
+use text::decimal::decimal_length;
 ghost use mathlib.Core.Path.{_≡_};
 ghost use Prim.Native.Nat.{_*_, _≤_, _<_, _^_};
 ghost use lib.ListN.{length};

@@ -4,6 +4,7 @@ pub mod Relations
 pub mod Commas
 pub mod CodedCommas
 pub mod Bounds
+pub mod Fit
 pub mod Turns
 pub mod Bodies
 pub mod Conditions

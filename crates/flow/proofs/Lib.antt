@@ -5,5 +5,6 @@ pub mod Laws
 pub mod Terms
 pub mod Bounds
 pub mod Silenced
+pub mod LinesRead
 pub mod Closing
 pub mod Classes

@@ -12,16 +12,14 @@ use lib.Dec.{eqb, ltb, leb}
 use lib.ListN.{length}
 use Rattle.lists.specs.Choice.{pick}
 use Rattle.lists.specs.Every.{both-yes}
-use Rattle.lists.specs.Below.{all-at}
 use Rattle.x86.specs.Mnemonics.{jmp}
-use Rattle.x86.specs.Registers.{registerExists}
 use Rattle.record.specs.declared.header.Header.{Header}
 use Rattle.record.specs.Header.{headerOf}
-use Rattle.record.specs.Asked.{bodiesAsked, firstNo}
-use Rattle.record.proofs.AskedLaws.{yes-bodies}
-use Rattle.record.specs.Layout.{marksOf, bodiesOf}
+use Rattle.record.specs.Asked.{firstNo}
+use Rattle.record.proofs.AskedLaws.{yes-body}
+use Rattle.record.specs.Layout.{marksOf}
 use Rattle.record.specs.Blocks.{instructionsIn, firstInstruction}
-use Rattle.record.specs.Body.{bodyAt, mnemonicOf, conditionOf, operandKind, operandNumber, setsByCondition, conditionOk, fixedOk, operandsOk, bodyOk, bodiesOk}
+use Rattle.record.specs.Body.{mnemonicOf, conditionOf, operandKind, operandNumber, setsByCondition, conditionOk}
 use Rattle.cfg.specs.Graph.{firstIn, countIn, endingIn, branchTo, lastIn, isShown}
 use Rattle.structure.specs.Plan.{goesNext}
 use Rattle.structure.specs.Demand.{Context, lastSilent, silent, unsilenced, unsilencedIn}
@@ -158,12 +156,6 @@ jmp-rule m c near ok = by (eqb m jmp) refl
             absurd (false≢true (rw q at (both-yes (leb jmp 45 && leb c 16) (Bool·beq (setsByCondition jmp) (not (eqb c 0))) j .1)))
 
 pub plain-jmps : (s : List ℕ) (from to : ℕ) → firstNo s from to ≡ 0 → PlainJmps (headerOf s) s
-unfolding bodiesAsked bodiesOk bodyOk fixedOk
 plain-jmps s from to asked i l =
-    let h = headerOf s in
-    let b = bodyIn h s i in
-    let every = both-yes (registerExists (h .frame)) (bodiesOk (bodiesOf h s) (h .instructions)) (yes-bodies s from to asked) .1 in
-    let ok : bodyOk b ≡ true = all-at (λ i. bodyOk (bodyAt (bodiesOf h s) i)) (h .instructions) i every l in
-    let fixed : fixedOk b ≡ true = both-yes (fixedOk b) (operandsOk b) (both-yes (fixedOk b && operandsOk b) _ ok .0) .0 in
-    let c = both-yes _ _ (both-yes _ _ (both-yes _ _ (both-yes _ _ (both-yes _ _ (both-yes _ _ fixed .0) .0) .0) .0) .0) .0 in
-    jmp-rule (mnemonicOf b) (conditionOf b) (eqb (operandKind b 0) 2) c
+    let b = bodyIn (headerOf s) s i in
+    jmp-rule (mnemonicOf b) (conditionOf b) (eqb (operandKind b 0) 2) (yes-body s from to asked i l .condition)

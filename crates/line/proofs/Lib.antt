@@ -8,3 +8,5 @@ pub mod SmallNumbers
 pub mod Turns
 pub mod LinesShown
 pub mod Longest
+pub mod ConditionForms
+pub mod Fit

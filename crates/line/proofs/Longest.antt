@@ -33,7 +33,7 @@ use Rattle.expressions.proofs.Bounds.{comma-within, body-bytes, operand-within,
 use Rattle.line.specs.declared.pieces.Site.{Site}
 use Rattle.line.specs.Forms.{Piece, Form, rowOf, formOf}
 use Rattle.line.specs.Forms.Piece.{fixed, op, address, zeros, ones, condition, negated, arguments, target, start, accumulator, assembly}
-use Rattle.line.specs.Codes.{pieceOf, codes}
+use Rattle.line.specs.Codes.{pieceOf, codes, codesOf}
 use Rattle.line.specs.Fits.{Short, Fits}
 use Rattle.line.proofs.RowTable.{every-row}
 use Rattle.line.specs.Print.{lengthFrom, nameLength, insnName, assembled, assemblyTokens, pieceTokens, piecesTokens, siteOf, lineTokens, maskAfter, printed}
@@ -99,12 +99,12 @@ mostTokensOf (p ∷ ps) = mostTokens p + mostTokensOf ps
 
 -- no row has more than 8189 tokens and 300000 bytes
 row-few : (form : Form) → mostTokensOf (rowOf form) ≤ 8189
-unfolding codes pieceOf wordToken words
-row-few form = leb→le _ _ (every-row (λ (ps : List Piece). leb (mostTokensOf ps) 8189) tt tt form)
+unfolding codesOf codes pieceOf wordToken words
+row-few form = leb→le _ _ (every-row (λ (ps : List Piece). leb (mostTokensOf ps) 8189) tt form)
 
 row-short : (form : Form) → mostOf (rowOf form) ≤ 300000
-unfolding codes pieceOf wordToken words
-row-short form = leb→le _ _ (every-row (λ (ps : List Piece). leb (mostOf ps) 300000) tt tt form)
+unfolding codesOf codes pieceOf wordToken words
+row-short form = leb→le _ _ (every-row (λ (ps : List Piece). leb (mostOf ps) 300000) tt form)
 
 module _ (h : Header) (s : List ℕ) (ss : AllBytes s) (shift : natAbs (h .shift) ≤ 2 ^ 31) where
   -- `__asm`: the count of operands is a byte

@@ -8,7 +8,8 @@ use lib.Dec.{T, ltb, ltb→lt}
 use lib.ListN.{length, getD, take, drop}
 use lib.Seq.{getD-drop}
 use Rattle.lists.specs.Entries.{tab, entry}
-use Rattle.lists.specs.Every.{every, every-at}
+use Rattle.lists.specs.Choice.{allBelow}
+use Rattle.lists.specs.Below.{below-at}
 use Rattle.tokens.specs.Words.{wordToken, words}
 use Rattle.line.specs.Forms.{Piece, Form, rowOf}
 use Rattle.line.specs.Forms.Form.{assign, cast-u32, cast-u64, cast-i32, cast-i64, take-address, store-zero, store-ones, add-to, subtract, and-with, or-with, xor-with, shift-left, shift-right, rotate-left, rotate-right, increment, decrement, negation, complement, multiply-two, multiply-by, pop-value, call-target, call-memory, call-through, return-value, return-nothing, tail-call-memory, computed-jump, set-condition, move-if, compare-exchange, exchange-first, exchange-second, time-stamp, cpu-identify, fast-fail, assembly-line, label, open-do, open-if, goto-if, close-while, close, goto, tail-call-target}
@@ -100,6 +101,5 @@ pub pieces-are : (f : Form) → map pieceOf (codesOf (formNumber f)) ≡ rowOf f
 pieces-are f = numbered f .1
 
 -- a test that all rows pass, computed, each form's passes
-pub every-row : (q : List Piece → Bool) → T (q []) → T (every (λ (cs : List ℕ). q (map pieceOf cs)) codes) → (f : Form) → T (q (rowOf f))
-unfolding codesOf
-every-row q e t f = rw (← pieces-are f) (every-at (λ (cs : List ℕ). q (map pieceOf cs)) [] e codes (formNumber f) t)
+pub every-row : (q : List Piece → Bool) → T (allBelow (λ k. q (map pieceOf (codesOf k))) 48) → (f : Form) → T (q (rowOf f))
+every-row q t f = rw (← pieces-are f) (below-at (λ k. q (map pieceOf (codesOf k))) 48 t (formNumber f) (form-below (formNumber f) f refl))

@@ -1,6 +1,5 @@
 // Lists the record that is read from standard input: the page of its whole range, or `no` and a number.
 use libc::STDERR_FILENO;
-use libc::STDIN_FILENO;
 use libc::STDOUT_FILENO;
 use lists::parts::part;
 use lists::parts::part_u16;
@@ -12,18 +11,18 @@ use pseudo::call::list;
 use record::header::read_header;
 use record::layout::size;
 use rows::answer::Answer;
-ghost use mathlib.Core.Path.{_≡_};
+use stdio::input::bytes_read;
+use stdio::input::read_input;
 ghost use Prim.Native.Nat.{_≤_};
 ghost use lib.ListN.{length, take};
-ghost use Rattle.lists.specs.Put.{put};
-ghost use Rattle.listing.specs.Output.{outputText, Prints, bytesRead};
+ghost use Rattle.page.specs.Page.{pageOf};
+ghost use Rattle.program.specs.Output.{Prints};
 
 // What the program prints of a record; answers how many bytes that is. `lines=900` and LF are 10, each of 900 lines has 16 digits,
 // a space, at most 2 * 255 spaces and LF beside its text, and the text at most 65,536: 540,746 bytes in all.
 fn answer(rec: &[u8], out: &mut [u8]) -> usize
-    ensures end { λ r. ⌜ (r ≡ length (outputText (now (rec .entry)))) × (r ≤ 540746) ⌝ }
-    ensures text { λ _. ⌜ now (out .exit) ≡ put 0 (outputText (now (rec .entry))) (now (out .entry)) ⌝ }
-    ensures whole { λ r. ⌜ (540746 ≤ length (now (out .entry)) → Prints (now (rec .entry)) (take r (now (out .exit)))) ⌝ }
+    requires { ⌜ 540746 ≤ length (now out) ⌝ }
+    ensures { λ r. ⌜ Prints pageOf (now (rec .entry)) (take r (now (out .exit))) ⌝ }
 {
     let to = size(read_header(rec).blocks);
     let mut text = [0u8; 65536];
@@ -58,57 +57,16 @@ fn answer(rec: &[u8], out: &mut [u8]) -> usize
     }
 }
 
-// What reading the input came to: how many bytes there are.
-enum Input {
-    All(usize),
-    Failed,
-}
-
-// Reads until the list is full or the input ends.
-fn read_input(rec: &mut [u8]) -> Input
-    ensures { λ r. ⌜ bytesRead r ≤ length (now (rec .entry)) ⌝ }
-{
-    let mut n = 0;
-    while n < rec.len() {
-        let rest = &mut rec[n..];
-        let got = libc::read(STDIN_FILENO, rest);
-        if got < 0 {
-            return Input::Failed;
-        }
-        let more = io::count(got, rest);
-        if more == 0 {
-            return Input::All(n);
-        }
-        n += more;
-    }
-    Input::All(n)
-}
-
-// Says on standard error what failed. A program of the kit has no exit status but 0.
-fn complain(what: &[u8]) {
-    io::write_all(STDERR_FILENO, what);
-}
-
-// How many bytes there are to list: none where reading failed, so that question 1 gets a no, and standard error says why.
-fn bytes_read(input: Input) -> usize
-    ensures { λ r. ⌜ r ≡ bytesRead input ⌝ }
-{
-    match input {
-        Input::All(n) => n,
-        Input::Failed => {
-            complain(b"listing: standard input cannot be read\n");
-            0
-        }
-    }
-}
-
-// Reads at most 65,537 bytes, one more than a record may have.
+// Reads at most 65,537 bytes, one more than a record may have. No bytes are no record: where the input cannot be read, question 1 gets a no.
 fn main() {
     let mut rec = [0u8; 65537];
-    let n = bytes_read(read_input(&mut rec));
+    let n = bytes_read(read_input(&mut rec), 0, b"listing");
     let mut out = [0u8; 540746];
     let m = answer(part(&rec, 0, n), &mut out);
     if !io::write_all(STDOUT_FILENO, part(&out, 0, m)) {
-        complain(b"listing: standard output cannot be written\n");
+        io::write_all(
+            STDERR_FILENO,
+            b"listing: standard output cannot be written\n",
+        );
     }
 }

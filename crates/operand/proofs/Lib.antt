@@ -6,6 +6,7 @@ pub mod Choices
 pub mod Displacements
 pub mod WordNames
 pub mod Bounds
+pub mod Fit
 pub mod Tokens
 pub mod Entry
 pub mod Pieces

@@ -2,30 +2,26 @@
 -- A line has at most 528 bytes beside its text, and where lines end in order their texts lie one behind the other.
 use mathlib.Core.Path.{_≡_}
 use mathlib.Core.List.{List}
-use Prim.Native.Nat.{ℕ, zero, suc, _+_, _*_, _/_, _^_, _≤_, _<_}
+use Prim.Native.Nat.{ℕ, zero, suc, _+_, _*_, _^_, _≤_, _<_}
 use native.Mathlib.Nat.{add-zero}
-use native.Mathlib.Decide.{decLt}
 use native.Mathlib.Omega.{arith}
 use lib.ListN.{length, getD, take, length-append, length-replicate, length-take, length-drop}
 use lib.Seq.{slice}
-use Rattle.text.specs.Decimal.{decimalText}
-use Rattle.page.specs.Page.{numbered, countLine, lineOf, linesEnd, lineBytes, linesText, pageText}
-use Rattle.page.proofs.Pieces.{decimal-1, decimal-2, decimal-3, address-length}
-
-decimal-short : (n : ℕ) → n < 1000 → length (decimalText n) ≤ 3
-decimal-short n h =
-    elim (decLt n 10) [
-      | yes a ↦ rw (decimal-1 n a) (omega arith)
-      | no a ↦
-          elim (decLt (n / 10) 10) [
-            | yes b ↦ rw (decimal-2 n (omega arith) b) (omega arith)
-            | no b ↦ rw (decimal-3 n (omega arith) (omega arith) h) (omega arith)
-          ]
-    ]
+use Rattle.text.proofs.DecimalDigits.{digits-few-3, digits-few}
+use Rattle.page.specs.Page.{numbered, countLine, refusal, lineOf, linesEnd, lineBytes, linesText, pageText}
+use Rattle.page.proofs.Pieces.{address-length}
 
 count-short : (n : ℕ) → n < 1000 → length (countLine n) ≤ 10
 unfolding numbered
-count-short n h = rw (length-append, length-append) (omega (arith, decimal-short n h))
+count-short n h = rw (length-append, length-append) (omega (arith, digits-few-3 n (omega arith) h))
+
+pub count-long : (n : ℕ) → n < 65536 → length (countLine n) ≤ 12
+unfolding numbered
+count-long n h = rw (length-append, length-append) (omega (arith, digits-few n h))
+
+pub refusal-short : (n : ℕ) → n < 1000 → length (refusal n) ≤ 10
+unfolding numbered
+refusal-short n h = rw (length-append, length-append) (omega (arith, digits-few-3 n (omega arith) h))
 
 line-short : (mark address : ℕ) (s : List ℕ) → address < 2 ^ 64 → length (lineOf mark address s) ≤ 528 + length s
 unfolding lineOf
@@ -37,7 +33,7 @@ slice-short b e text h = omega (arith, length-drop b (take e text), length-take 
 
 module _ (text ends lines addresses marks : List ℕ) (fits : (i : ℕ) → getD addresses i 0 < 2 ^ 64) (n : ℕ)
     (rising : (i : ℕ) → i < n → linesEnd ends lines i ≤ linesEnd ends lines (suc i)) where
-  lines-short : (i k : ℕ) → i + k ≤ n → length (linesText text ends lines addresses marks i k) + linesEnd ends lines i ≤ 528 * k + linesEnd ends lines (i + k)
+  pub lines-short : (i k : ℕ) → i + k ≤ n → length (linesText text ends lines addresses marks i k) + linesEnd ends lines i ≤ 528 * k + linesEnd ends lines (i + k)
   unfolding linesText
   lines-short i zero h = rw add-zero (omega arith)
   lines-short i (suc k) h =

@@ -3,19 +3,19 @@
 use mathlib.Core.Path.{_≡_, refl, sym, ap, _∙_}
 use mathlib.Core.Bool.{true}
 use mathlib.Core.List.{List, [], _∷_, _++_, append-assoc}
-use Prim.Native.Nat.{ℕ, zero, suc, _+_, _-_, _*_, _/_, _%_, _^_, _≤_, _<_}
-use native.Mathlib.Nat.{add-zero}
+use Prim.Native.Nat.{ℕ, zero, suc, _+_, _-_, _*_, _%_, _^_, _≤_, _<_}
+use native.Mathlib.Nat.{add-zero, zero-add}
 use native.Mathlib.Decide.{decLt}
 use native.Mathlib.Omega.{arith}
 use borrow.Author.Tests.{lt-ltb, le-ltb}
 use lib.ListN.{length, getD, take, drop, set, replicate, length-append, length-replicate, length-take}
-use lib.Seq.{slice}
+use lib.Seq.{slice, take-append-seam}
 use Rattle.lists.specs.Put.{put}
-use Rattle.lists.specs.PutLaws.{put-append, put-cons, put-none}
+use Rattle.lists.specs.PutLaws.{put-append, put-cons, put-none, put-fits}
 use Rattle.text.specs.Number.{hexText}
 use Rattle.text.specs.NumberLaws.{hex-64}
-use Rattle.text.specs.Decimal.{decimalOf, decimalText}
-use Rattle.page.specs.Page.{lf, numbered, addressText, lineOf, countLine, tokensEnd, linesEnd, lineBytes, linesText, pageText}
+use Rattle.text.specs.Decimal.{decimalText}
+use Rattle.page.specs.Page.{lf, numbered, addressText, lineOf, countLine, tokensEnd, linesEnd, lineBytes, lineText, linesText, pageText}
 
 -- what is stored from `at` on, and where it ends
 pub record Puts (at : ℕ) (t : List ℕ) (k : ℕ) (e e′ : List ℕ) : Type 0 where
@@ -30,28 +30,14 @@ puts-then at k k′ s t e e₁ e₂ p q h =
       end = omega (arith, p .end, length-append s t);
     }
 
+-- a text that was stored where there is room for it stands there whole
+pub stands-whole : (t e e′ : List ℕ) (r : ℕ) → r ≡ length t → e′ ≡ put 0 t e → r ≤ length e → take r e′ ≡ t
+stands-whole t e e′ r p q h =
+    let is : e′ ≡ t ++ drop (0 + length t) e = q ∙ put-fits 0 t e (omega arith) in
+    rw (is, p) (take-append-seam t (drop (0 + length t) e))
+
 pub put-one : (at x : ℕ) (e e₁ : List ℕ) → e₁ ≡ set e at x → e₁ ≡ put at (x ∷ []) e
 put-one at x e e₁ q = rw (put-cons, put-none) q
-
-pub put-two : (at k x y : ℕ) (e e₁ e₂ : List ℕ) → e₁ ≡ set e at x → k ≡ at + 1 → e₂ ≡ set e₁ k y → e₂ ≡ put at (x ∷ y ∷ []) e
-put-two at k x y e e₁ e₂ p h q = rw (put-cons, ← p, ← h) (put-one k y e₁ e₂ q)
-
-pub put-three : (at k l x y z : ℕ) (e e₁ e₂ e₃ : List ℕ) → e₁ ≡ set e at x → k ≡ at + 1 → e₂ ≡ set e₁ k y → l ≡ k + 1 → e₃ ≡ set e₂ l z → e₃ ≡ put at (x ∷ y ∷ z ∷ []) e
-put-three at k l x y z e e₁ e₂ e₃ p h q i r = rw (put-cons, ← p, ← h) (put-two k l y z e₁ e₂ e₃ q i r)
-
--- ---- a number below 1,000 in decimal
-module _ (n : ℕ) where
-  pub decimal-1 : n < 10 → decimalText n ≡ (48 + n) ∷ []
-  unfolding decimalOf
-  decimal-1 h = rw (lt-ltb n 10 h)
-
-  pub decimal-2 : 10 ≤ n → n / 10 < 10 → decimalText n ≡ (48 + n / 10) ∷ (48 + n % 10) ∷ []
-  unfolding decimalOf
-  decimal-2 h k = rw (le-ltb n 10 h, lt-ltb (n / 10) 10 k)
-
-  pub decimal-3 : 10 ≤ n → 10 ≤ n / 10 → n < 1000 → decimalText n ≡ (48 + n / 10 / 10) ∷ (48 + n / 10 % 10) ∷ (48 + n % 10) ∷ []
-  unfolding decimalOf
-  decimal-3 h k l = rw (le-ltb n 10 h, le-ltb (n / 10) 10 k, lt-ltb (n / 10 / 10) 10 (omega arith))
 
 pub numbered-puts : (word e e₁ e₂ e₃ : List ℕ) (n w end : ℕ) → w ≡ length word → e₁ ≡ put 0 word e → end ≡ w + length (decimalText n) → e₂ ≡ put w (decimalText n) e₁
     → e₃ ≡ set e₂ end 10 → Puts 0 (numbered word n) (end + 1) e e₃
@@ -129,7 +115,19 @@ between-is text s r start end p q = q ∙ ap (drop start) p
 pub between-short : (text s : List ℕ) (n start end : ℕ) → s ≡ take end text → n ≡ length s - start → n ≤ length text
 between-short text s n start end p q = omega (arith, ap length p, length-take end text)
 
--- ---- the page
+-- ---- where lines end
+module _ (ends lines : List ℕ) where
+  pub lines-end : (j end k : ℕ) → k ≡ getD lines j 0 → end ≡ tokensEnd ends k → end ≡ linesEnd ends lines (j + 1)
+  lines-end j end k b c =
+      let w : j + 1 ≡ suc j = omega arith in
+      rw (w, c, b)
+
+  pub first-end : (i end k : ℕ) → (i ≡ 0 → ⊥) → k ≡ getD lines (i - 1) 0 → end ≡ tokensEnd ends k → end ≡ linesEnd ends lines i
+  first-end i end k h b c =
+      let w : i - 1 + 1 ≡ i = omega arith in
+      rw w at (lines-end (i - 1) end k b c)
+
+-- ---- lines
 -- what is left to store of a text that is stored from at₀ on, from where the loop stands, and where that ends
 pub record Left (at₀ : ℕ) (all e : List ℕ) (at : ℕ) (t out : List ℕ) : Type 0 where
   pub text : put at t out ≡ put at₀ all e
@@ -142,39 +140,49 @@ left-turn at₀ all e s t out out′ at at′ l p h =
       end = omega (arith, l .end, length-append s t);
     }
 
-module _ (text ends lines addresses marks : List ℕ) (n : ℕ) where
-  abbrev linesLeft : ℕ → ℕ → List ℕ
-  linesLeft = linesText text ends lines addresses marks
+module _ (text ends lines addresses marks : List ℕ) where
+  abbrev linesFrom : ℕ → ℕ → List ℕ
+  linesFrom = linesText text ends lines addresses marks
 
-  -- the lines from i on, when the list is as `out` and the text so far ends at `at`
-  abbrev pub Ahead : ℕ → List ℕ → ℕ → ℕ → List ℕ → Type 0
-  Ahead at₀ e i at out = Left at₀ (linesLeft 0 n) e at (linesLeft i (n - i)) out
-
-  pub page-start : (at : ℕ) (e : List ℕ) → Ahead at e 0 at e
-  page-start at e =
-      let d : n - 0 ≡ n = omega arith in
-      rw d (record { text = refl; end = refl })
-
-  pub page-turn : (at₀ : ℕ) (e : List ℕ) (i start k end mark address at at′ : ℕ) (s out out′ : List ℕ) → i < n → start ≡ linesEnd ends lines i → k ≡ getD lines i 0 → end ≡ tokensEnd ends k
-      → s ≡ slice start end text → mark ≡ getD marks i 0 → address ≡ getD addresses i 0 → at′ ≡ at + length (lineOf mark address s) → out′ ≡ put at (lineOf mark address s) out
-      → Ahead at₀ e i at out → Ahead at₀ e (i + 1) at′ out′
+  -- lines, and those behind them
+  pub lines-append : (i a b : ℕ) → linesFrom i (a + b) ≡ linesFrom i a ++ linesFrom (i + a) b
   unfolding linesText
-  page-turn at₀ e i start k end mark address at at′ s out out′ h a b c d f g m p l =
-      let v : n - i ≡ suc (n - suc i) = omega arith in
-      let w : suc i ≡ i + 1 = omega arith in
-      let q : s ≡ lineBytes text ends lines addresses marks i = d ∙ rw (c, b, a) in
-      let here : Left at₀ (linesLeft 0 n) e at (lineOf mark address s ++ linesLeft (i + 1) (n - (i + 1))) out = rw (f, g, q, ← w) (rw v at l) in
-      left-turn at₀ (linesLeft 0 n) e (lineOf mark address s) (linesLeft (i + 1) (n - (i + 1))) out out′ at at′ here p m
+  lines-append i zero b = rw (zero-add, add-zero)
+  lines-append i (suc a) b =
+      let d : suc a + b ≡ suc (a + b) = omega arith in
+      let k : suc i + a ≡ i + suc a = omega arith in
+      let l = lineText text ends lines addresses marks i in
+      rw d (ap (λ (t : List ℕ). l ++ t) (lines-append (suc i) a b ∙ rw k) ∙ sym (append-assoc l (linesFrom (suc i) a) (linesFrom (i + suc a) b)))
 
-  pub page-end : (i end k : ℕ) → k ≡ getD lines i 0 → end ≡ tokensEnd ends k → end ≡ linesEnd ends lines (i + 1)
-  page-end i end k b c =
-      let w : i + 1 ≡ suc i = omega arith in
-      rw (w, c, b)
+  -- of the lines from i up to last those from j on, when the list is as `out` and the text so far ends at `at`
+  abbrev pub Ahead : ℕ → ℕ → ℕ → List ℕ → ℕ → ℕ → List ℕ → Type 0
+  Ahead i last at₀ e j at out = Left at₀ (linesFrom i (last - i)) e at (linesFrom j (last - j)) out
 
-  pub page-done : (at₀ : ℕ) (e e₁ : List ℕ) (i at : ℕ) (out : List ℕ) → at₀ ≡ length (countLine n) → e₁ ≡ put 0 (countLine n) e → n ≤ i → Ahead at₀ e₁ i at out
-      → Puts 0 (pageText text ends lines addresses marks n) at e out
-  unfolding linesText pageText
-  page-done at₀ e e₁ i at out k p h l =
-      let d : n - i ≡ 0 = omega arith in
-      let r : Left at₀ (linesLeft 0 n) e₁ at [] out = rw d at l in
-      puts-then 0 at₀ at (countLine n) (linesLeft 0 n) e e₁ out (record { text = p; end = omega arith }) (sym (put-none at out) ∙ r .text) (omega (arith, r .end))
+  module _ (i last : ℕ) where
+    pub lines-start : (at : ℕ) (e : List ℕ) → Ahead i last at e i at e
+    lines-start at e = record { text = refl; end = refl }
+
+    pub lines-turn : (at₀ : ℕ) (e : List ℕ) (j start k end mark address at at′ : ℕ) (s out out′ : List ℕ) → j < last → start ≡ linesEnd ends lines j → k ≡ getD lines j 0 → end ≡ tokensEnd ends k
+        → s ≡ slice start end text → mark ≡ getD marks j 0 → address ≡ getD addresses j 0 → at′ ≡ at + length (lineOf mark address s) → out′ ≡ put at (lineOf mark address s) out
+        → Ahead i last at₀ e j at out → Ahead i last at₀ e (j + 1) at′ out′
+    unfolding linesText
+    lines-turn at₀ e j start k end mark address at at′ s out out′ h a b c d f g m p l =
+        let v : last - j ≡ suc (last - suc j) = omega arith in
+        let w : suc j ≡ j + 1 = omega arith in
+        let q : s ≡ lineBytes text ends lines addresses marks j = d ∙ rw (c, b, a) in
+        let here : Left at₀ (linesFrom i (last - i)) e at (lineOf mark address s ++ linesFrom (j + 1) (last - (j + 1))) out = rw (f, g, q, ← w) (rw v at l) in
+        left-turn at₀ (linesFrom i (last - i)) e (lineOf mark address s) (linesFrom (j + 1) (last - (j + 1))) out out′ at at′ here p m
+
+    pub lines-done : (at₀ : ℕ) (e : List ℕ) (k j at : ℕ) (out : List ℕ) → last ≡ i + k → last ≤ j → Ahead i last at₀ e j at out → Puts at₀ (linesFrom i k) at e out
+    unfolding linesText
+    lines-done at₀ e k j at out q h l =
+        let d : last - j ≡ 0 = omega arith in
+        let n : last - i ≡ k = omega arith in
+        let r : Left at₀ (linesFrom i k) e at [] out = rw (d, n) at l in
+        record { text = sym (put-none at out) ∙ r .text; end = omega (arith, r .end) }
+
+  -- ---- the page
+  pub page-puts : (n at r : ℕ) (e e₁ e₂ : List ℕ) → at ≡ length (countLine n) → e₁ ≡ put 0 (countLine n) e → r ≡ at + length (linesFrom 0 n) → e₂ ≡ put at (linesFrom 0 n) e₁
+      → Puts 0 (pageText text ends lines addresses marks n) r e e₂
+  unfolding pageText
+  page-puts n at r e e₁ e₂ k p h q = puts-then 0 at r (countLine n) (linesFrom 0 n) e e₁ e₂ (record { text = p; end = omega arith }) q h

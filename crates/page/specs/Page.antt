@@ -11,6 +11,7 @@ use Rattle.lists.specs.Ascii.{ascii}
 use Rattle.lists.specs.Choice.{pick}
 use Rattle.text.specs.Number.{hexText}
 use Rattle.text.specs.Decimal.{decimalText}
+use Rattle.rows.specs.Lists.{Lists}
 
 -- "LF ends every line."
 abbrev pub lf : List ℕ
@@ -60,3 +61,7 @@ module _ (text ends lines addresses marks : List ℕ) where
 
   unfoldable pub pageText : ℕ → List ℕ
   pageText n = countLine n ++ linesText 0 n
+
+-- the page of a listing
+abbrev pub pageOf : Lists → List ℕ
+pageOf l = pageText (l .text) (l .ends) (l .lines) (l .addresses) (l .marks) (length (l .addresses))

@@ -4,4 +4,5 @@ pub mod Answers
 pub mod Calls
 pub mod Demand
 pub mod Loops
+pub mod RowsHeld
 pub mod Promises

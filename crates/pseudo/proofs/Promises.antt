@@ -1,5 +1,5 @@
 -- What a call answers and leaves is what it promises, demand by demand.
--- With a number every list is as it was; with 0 the lists begin with the defined listing, of which demand 3 and #108 are proved.
+-- With a number every list is as it was; with 0 the lists begin with the defined listing, of which demand 3, #102 and #108 are proved.
 use mathlib.Core.Path.{_≡_, refl, sym, ap, _∙_}
 use mathlib.Core.Bool.{Bool, true, false, _&&_}
 use mathlib.Core.List.{List, map}
@@ -24,6 +24,7 @@ use Rattle.pseudo.specs.Called.{sizes, callNo, Called}
 use Rattle.pseudo.specs.Demand.{LinesDemand3}
 use Rattle.pseudo.specs.Loops.{LoopsClose}
 use Rattle.pseudo.specs.Promise.{held, Promise}
+use Rattle.rows.specs.Rows.{holdsRows}
 use Rattle.rows.specs.declared.answer.Sizes.{Sizes}
 use Rattle.rows.specs.declared.answer.Rooms.{Rooms}
 use Rattle.rows.specs.declared.answer.Answer.{Answer}
@@ -32,6 +33,7 @@ use Rattle.line.proofs.LinesShown.{conditions-shown, calls-shown}
 use Rattle.pseudo.proofs.Answers.{printed-length}
 use Rattle.pseudo.proofs.Demand.{listing-demand3}
 use Rattle.pseudo.proofs.Loops.{loops-close}
+use Rattle.pseudo.proofs.RowsHeld.{rows-held}
 
 -- ---- the numbers
 
@@ -139,6 +141,10 @@ module _ (s : List ℕ) (from to : ℕ) (b a : Lists) (r : Answer) (c : Called s
       let size : valuesOf r .lines ≡ n = ap (λ (g : Answer). valuesOf g .lines) (p .answer) in
       rw (size, read-back n (new .addresses) (b .addresses) (a .addresses) refl (p .addresses)) (loops-close s from to q)
 
+  rows-left : (n : ℕ) → Left n → n ≡ 0 → firstNo s from to ≡ 0 → holdsRows a (valuesOf r .text) (valuesOf r .tokens) (valuesOf r .lines) ≡ true
+  rows-left (suc n) p z q = absurd (omega arith)
+  rows-left zero p z q = rows-held s from to q b a r p
+
   -- the lists hold the lines of the defined listing
   lines-held : (n : ℕ) → Left n → n ≡ 0 → held a r ≡ map join ls
   unfolding listing
@@ -169,4 +175,5 @@ module _ (s : List ℕ) (from to : ℕ) (b a : Lists) (r : Answer) (c : Called s
     arguments = λ e. arguments-held (lines-held (callNo s from to rooms) c (sym number ∙ e));
     loops = λ e. loops-held (callNo s from to rooms) c (sym number ∙ e) (accepted (sym number ∙ e));
     demand3 = λ e. listed (callNo s from to rooms) c (sym number ∙ e) (accepted (sym number ∙ e));
+    rows = λ e. rows-left (callNo s from to rooms) c (sym number ∙ e) (accepted (sym number ∙ e));
   }

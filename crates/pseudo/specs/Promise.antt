@@ -1,11 +1,13 @@
 -- What a call promises, demand by demand, of what its caller holds: the record's bytes, the lists before and after, and the answer.
 use Prim.Native.Nat.{ℕ, _≤_}
+use mathlib.Core.Bool.{true}
 use mathlib.Core.List.{List}
 use mathlib.Core.Path.{_≡_}
 use lib.ListN.{take}
 use Rattle.tokens.specs.Token.{Token}
 use Rattle.tokens.specs.Lines.{linesIn}
 use Rattle.rows.specs.Lists.{Lists, numberOf, valuesOf}
+use Rattle.rows.specs.Rows.{holdsRows}
 use Rattle.rows.specs.declared.answer.Answer.{Answer}
 use Rattle.record.specs.Header.{headerOf}
 use Rattle.flow.specs.Planned.{recordPlan}
@@ -37,3 +39,5 @@ pub record Promise (s : List ℕ) (from to : ℕ) (b a : Lists) (r : Answer) : T
   pub demand3 : numberOf r ≡ 0
       → LinesDemand3 s from to (take (valuesOf r .lines) (a .addresses)) (take (valuesOf r .lines) (a .marks)) (take (valuesOf r .lines) (a .places))
       (take (valuesOf r .lines) (a .lines))
+  -- #102: every listing can be written as rows, "lines of at least one token, no token empty, indents up to 254"
+  pub rows : numberOf r ≡ 0 → holdsRows a (valuesOf r .text) (valuesOf r .tokens) (valuesOf r .lines) ≡ true

@@ -3,17 +3,21 @@
 use mathlib.Core.Path.{_≡_, refl}
 use mathlib.Core.Bool.{Bool, true, false, _&&_}
 use mathlib.Core.List.{List}
-use Prim.Native.Nat.{ℕ, zero, suc, _≤_}
+use Prim.Native.Nat.{ℕ, zero, suc, _≤_, _<_}
 use native.Mathlib.Omega.{arith}
 use borrow.Author.Tests.{leb-true}
 use lib.Dec.{leb}
 use Rattle.lists.specs.Choice.{ask}
 use Rattle.lists.specs.Every.{both-yes}
+use Rattle.lists.specs.Below.{all-at}
+use Rattle.x86.specs.Registers.{registerExists}
 use Rattle.record.specs.declared.header.Header.{Header}
 use Rattle.record.specs.Header.{headerOf, headerFits, fieldsOk, limitsOk}
-use Rattle.record.specs.Layout.{lengthOk, marksOf}
+use Rattle.record.specs.Layout.{lengthOk, marksOf, bodiesOf}
 use Rattle.record.specs.Blocks.{marksOk}
+use Rattle.record.specs.Body.{bodyAt, bodyOk, bodiesOk}
 use Rattle.record.specs.Asked.{orElse, sizesNo, marksAsked, startsAsked, edgeKindsAsked, bodiesAsked, branchesAsked, atlasAsked, spansAsked, blocksNo, contentsNo, rangeNo, firstNo}
+use Rattle.record.proofs.Bodies.{Proper, proper}
 
 pub later : (a b : ℕ) → orElse a b ≡ 0 → (a ≡ 0) × (b ≡ 0)
 later zero b h = (refl, h)
@@ -53,6 +57,14 @@ module _ (s : List ℕ) (from to : ℕ) (yes : firstNo s from to ≡ 0) where
   pub yes-bodies : bodiesAsked h s ≡ true
   unfolding contentsNo
   yes-bodies = passed 7 (bodiesAsked h s) (ask 15 (branchesAsked h s) texts) (stages .2) .0
+
+  -- of each instruction
+  pub yes-body : (i : ℕ) → i < h .instructions → Proper (bodyAt (bodiesOf h s) i)
+  unfolding bodiesAsked bodiesOk
+  yes-body i l =
+      proper (bodyAt (bodiesOf h s) i)
+      (all-at (λ j. bodyOk (bodyAt (bodiesOf h s) j)) (h .instructions) i
+      (both-yes (registerExists (h .frame)) (bodiesOk (bodiesOf h s) (h .instructions)) yes-bodies .1) l)
 
   -- question 15
   pub yes-branches : branchesAsked h s ≡ true

@@ -1,5 +1,6 @@
 pub mod Stages
 pub mod Running
+pub mod Bodies
 pub mod AskedLaws
 pub mod SearchLaws
 pub mod Rising

@@ -39,6 +39,16 @@ module _ (numbers : List ℕ) (x : ℕ) where
         | no q ↦ rw (ne-eqb (numberAt numbers k) x (h k (omega arith))) (find-first (suc k) n m (omega arith) (omega arith) h e)
       ]
 
+  -- what holds of nothing and of each number before m holds of what is found before m
+  pub find-kept : (P : Found → Type 0) (k n m : ℕ) → k + n ≤ m → P Nothing → ((j : ℕ) → j < m → P (At j)) → P (findFrom numbers x k n)
+  unfolding findFrom
+  find-kept P k zero m h nothing some = nothing
+  find-kept P k (suc n) m h nothing some = go (eqb (numberAt numbers k) x) (find-kept P (suc k) n m (omega arith) nothing some)
+    where
+      go : (b : Bool) → P (findFrom numbers x (suc k) n) → P (pick b (At k) (findFrom numbers x (suc k) n))
+      go true r = some k (omega arith)
+      go false r = r
+
   -- nothing is found where each of the numbers differs
   none-first : (k n : ℕ) → none (findFrom numbers x k (suc n)) ≡ (not (eqb (numberAt numbers k) x) && none (findFrom numbers x (suc k) n))
   unfolding findFrom

@@ -1,8 +1,8 @@
 -- Lists that begin with those of rows hold these rows.
 -- By induction along the tokens and along the rows; a list is known by what is left of it from an index on.
-use mathlib.Core.Path.{_≡_, refl, ap, _∙_}
+use mathlib.Core.Path.{_≡_, refl, sym, ap, _∙_}
 use mathlib.Core.Bool.{Bool, true, false, _&&_, _||_}
-use mathlib.Core.List.{List, [], _∷_, _++_, map}
+use mathlib.Core.List.{List, [], _∷_, _++_, map, append-nil}
 use Prim.Native.Nat.{ℕ, zero, suc, _+_, _≤_, _<_}
 use native.Mathlib.Nat.{add-zero, zero-add}
 use native.Mathlib.Omega.{arith}
@@ -18,9 +18,10 @@ use Rattle.tokens.specs.Listing.{textOf, endsFrom, kindsOf}
 use Rattle.tokens.specs.Lines.{endAt, tokenAt}
 use Rattle.tokens.proofs.Lines.{first, behind, tokens-back, line-first}
 use Rattle.tokens.proofs.ListingLaws.{ends-length, kinds-length}
-use Rattle.rows.specs.Lists.{Lists}
+use Rattle.tokens.proofs.Fit.{fitToken, Fit, none, behind as fit-behind}
+use Rattle.rows.specs.Lists.{Lists, listsOf, valuesOf, Leaves}
+use Rattle.rows.specs.declared.answer.Answer.{Answer}
 use Rattle.rows.specs.Rows.{Row, isAddressed, indentOf, rowAt, rowsIn, allTokens, tokenCounts, markOf, rowLists, tokenHeld, rowHeld, sizesWithin, holdsRows}
-use Rattle.rows.proofs.Tests.{both}
 
 -- as many as there are rows
 pub counts-length : (n : ℕ) (rs : List Row) → length (tokenCounts n rs) ≡ length rs
@@ -29,19 +30,16 @@ counts-length n [] = refl
 counts-length n (r ∷ rs) = ap suc (counts-length (n + length (r .tokens)) rs)
 
 -- ---- the rows that lists can hold: a token is not empty and of a kind below 8, a row has tokens, an indent up to 254, and address 0 if none
-abbrev pub fitToken : Token → Bool
-fitToken t = ltb 0 (length (t .bytes)) && ltb (t .kind) 8
-
 abbrev pub fitRow : Row → Bool
 fitRow r = ltb 0 (length (r .tokens)) && leb (r .indent) 254 && (r .addressed || eqb (r .address) 0) && every fitToken (r .tokens)
 
-record Fit (r : Row) : Type 0 where
+record FitRow (r : Row) : Type 0 where
   pub tokens : 0 < length (r .tokens)
   pub indent : leb (r .indent) 254 ≡ true
   pub address : (r .addressed || eqb (r .address) 0) ≡ true
-  pub each : every fitToken (r .tokens) ≡ true
+  pub each : Fit (r .tokens)
 
-fit : (r : Row) → fitRow r ≡ true → Fit r
+fit : (r : Row) → fitRow r ≡ true → FitRow r
 fit r h =
     let t = ltb 0 (length (r .tokens)) in
     let d = leb (r .indent) 254 in
@@ -49,20 +47,14 @@ fit r h =
     let f = both-yes (t && d && a) (every fitToken (r .tokens)) h in
     let g = both-yes (t && d) a (f .0) in
     let k = both-yes t d (g .0) in
-    record { tokens = ltb-true 0 (length (r .tokens)) (k .0); indent = k .1; address = g .1; each = f .1 }
+    record { tokens = ltb-true 0 (length (r .tokens)) (k .0); indent = k .1; address = g .1; each = record { each = f .1 } }
 
-every-append : (s t : List Token) → every fitToken s ≡ true → every fitToken t ≡ true → every fitToken (s ++ t) ≡ true
-every-append [] t p q = q
-every-append (x ∷ s) t p q =
-    let f = both-yes (fitToken x) (every fitToken s) p in
-    both (fitToken x) (every fitToken (s ++ t)) (f .0) (every-append s t (f .1) q)
-
-all-fit : (rs : List Row) → every fitRow rs ≡ true → every fitToken (allTokens rs) ≡ true
+all-fit : (rs : List Row) → every fitRow rs ≡ true → Fit (allTokens rs)
 unfolding allTokens
-all-fit [] h = refl
+all-fit [] h = none
 all-fit (r ∷ rs) h =
     let f = both-yes (fitRow r) (every fitRow rs) h in
-    every-append (r .tokens) (allTokens rs) (fit r (f .0) .each) (all-fit rs (f .1))
+    fit-behind (fit r (f .0) .each) (all-fit rs (f .1))
 
 -- ---- a mark is told apart
 mark-back : (h : Bool) (d : ℕ) → d ≤ 254 → let m = pick h (d + 256) d in (isAddressed m ≡ h) × (indentOf m ≡ d) × (m < 512)
@@ -79,6 +71,21 @@ pub record Begins (rs : List Row) (l : Lists) : Type 0 where
   pub marks : l .marks ≡ rowLists rs .marks ++ past .marks
   pub places : l .places ≡ rowLists rs .places ++ past .places
   pub lines : l .lines ≡ rowLists rs .lines ++ past .lines
+
+-- nothing lies past the lists of the rows themselves
+pub begins-alone : (rs : List Row) → Begins rs (rowLists rs)
+begins-alone rs =
+    let l = rowLists rs in
+    record {
+      past = listsOf [] [] [] [] [] [] [];
+      text = sym (append-nil (l .text));
+      ends = sym (append-nil (l .ends));
+      kinds = sym (append-nil (l .kinds));
+      addresses = sym (append-nil (l .addresses));
+      marks = sym (append-nil (l .marks));
+      places = sym (append-nil (l .places));
+      lines = sym (append-nil (l .lines));
+    }
 
 module _ (l : Lists) where
   abbrev token-at : ℕ → Token
@@ -204,6 +211,29 @@ module _ (rs : List Row) (l : Lists) (b : Begins rs l) (g : every fitRow rs ≡ 
         le-leb m (length (l .lines)) (rw (b .lines, length-append, counts-length) (omega arith)),
         eq-eqb (endAt (l .ends) n) x (rw zero-add at (token-last l ts 0 0 (b .past .ends) refl (b .ends)) ∙ zero-add x),
         eq-eqb (endAt (l .lines) m) n (rw zero-add at (line-last l rs 0 0 (b .past) from-first) ∙ zero-add n),
-        all-below (tokenHeld l) n (λ j h. rw zero-add at (token-held l ts 0 0 (b .past .ends) (b .past .kinds) refl (b .ends) (b .kinds) (all-fit rs g) j h)),
+        all-below (tokenHeld l) n (λ j h. rw zero-add at (token-held l ts 0 0 (b .past .ends) (b .past .kinds) refl (b .ends) (b .kinds) (all-fit rs g .each) j h)),
         all-below (rowHeld l) m (λ i h. rw zero-add at (row-held l rs 0 0 (b .past) g from-first i h)),
       )
+
+-- what a call leaves that answers 0: the lists hold the rows whose lists they got
+begins : (rs : List Row) (b a : Lists) (r : Answer) → Leaves 0 (rowLists rs) b a r → Begins rs a
+begins rs b a r v =
+    let n = rowLists rs in
+    record {
+      past = listsOf (drop (length (n .text)) (b .text)) (drop (length (n .ends)) (b .ends)) (drop (length (n .kinds)) (b .kinds))
+          (drop (length (n .addresses)) (b .addresses)) (drop (length (n .marks)) (b .marks)) (drop (length (n .places)) (b .places)) (drop (length (n .lines)) (b .lines));
+      text = v .text;
+      ends = v .ends;
+      kinds = v .kinds;
+      addresses = v .addresses;
+      marks = v .marks;
+      places = v .places;
+      lines = v .lines;
+    }
+
+pub leaves-rows : (rs : List Row) (b a : Lists) (r : Answer) → Leaves 0 (rowLists rs) b a r → every fitRow rs ≡ true
+    → (holdsRows a (valuesOf r .text) (valuesOf r .tokens) (valuesOf r .lines) ≡ true) × (rowsIn a (valuesOf r .lines) ≡ rs)
+unfolding rowLists
+leaves-rows rs b a r v g =
+    let begun = begins rs b a r v in
+    rw (v .answer, ends-length, length-map) (rows-hold rs a begun g, rows-back rs a begun g)

@@ -162,6 +162,18 @@ module _ (l : Lists) (x n m : ℕ) (h : Held l x n m) where
   pub few-rows : m ≤ n
   few-rows = omega (arith, rw zero-add at (climb (l .lines) m m 0 row-rise (omega arith)), h .token-end)
 
+  pub few-tokens : n ≤ x
+  few-tokens = omega (arith, rw zero-add at (climb (l .ends) n n 0 token-rise (omega arith)), h .text-end)
+
+  -- no row's text ends before the row above
+  pub text-rise : (i : ℕ) → i < m → endAt (l .ends) (endAt (l .lines) i) ≤ endAt (l .ends) (endAt (l .lines) (suc i))
+  text-rise i k =
+      let a = endAt (l .lines) i in
+      let b = endAt (l .lines) (suc i) in
+      let r : a < b = row-rise i k in
+      let e : a + (b - a) ≡ b = omega arith in
+      omega (arith, rw e at (climb (l .ends) n (b - a) a token-rise (omega (arith, row-inside (suc i) k))))
+
   -- ---- tokens
   abbrev token-at : ℕ → Token
   token-at = tokenAt (l .text) (l .ends) (l .kinds)

@@ -1,3 +1,4 @@
 pub mod Tests
 pub mod Back
 pub mod Held
+pub mod Listed

@@ -1,7 +1,7 @@
 -- By a test, with what it said; and what follows from a test that fails and passes.
 -- By cases on the test.
 use mathlib.Core.Path.{_≡_, refl}
-use mathlib.Core.Bool.{Bool, true, false, _&&_}
+use mathlib.Core.Bool.{Bool, true, false}
 use Prim.Native.Nat.{ℕ}
 use native.Mathlib.Omega.{arith}
 
@@ -11,6 +11,3 @@ split false f g = g refl
 
 pub never : {A : Type 0} → false ≡ true → A
 never h = let z : _≡_ {A = ℕ} 0 1 = cc in absurd (omega arith)
-
-pub both : (a b : Bool) → a ≡ true → b ≡ true → (a && b) ≡ true
-both a b p q = rw (p, q)

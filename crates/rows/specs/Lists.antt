@@ -5,7 +5,7 @@ use mathlib.Core.Bool.{_&&_}
 use mathlib.Core.List.{List, _++_}
 use mathlib.Core.Path.{_≡_}
 use lib.Dec.{leb}
-use lib.ListN.{length, drop}
+use lib.ListN.{length, take, drop}
 use Rattle.lists.specs.Choice.{ask}
 use Rattle.lists.specs.Put.{put}
 use Rattle.rows.specs.declared.answer.Sizes.{Sizes}
@@ -74,6 +74,12 @@ roomsOf l = record {
   places = length (l .places);
   lines = length (l .lines);
 }
+
+-- the first entries of lists, by the sizes
+abbrev pub cut : Lists → Sizes → Lists
+cut l z =
+    listsOf (take (z .text) (l .text)) (take (z .tokens) (l .ends)) (take (z .tokens) (l .kinds))
+    (take (z .lines) (l .addresses)) (take (z .lines) (l .marks)) (take (z .lines) (l .places)) (take (z .lines) (l .lines))
 
 -- what is stored from the start of the lists on, as far as they go
 pub record Stands (new b a : Lists) : Type 0 where

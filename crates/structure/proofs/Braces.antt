@@ -13,7 +13,7 @@ use Rattle.structure.specs.Plan.What.{label-line, do-line, open-line, if
 use Rattle.structure.specs.Demand.{Brace, Nested, Shallow}
 use Rattle.structure.specs.Demand.Brace.{if-brace, do-brace}
 use Rattle.structure.proofs.Grown.{Fits}
-use Rattle.structure.proofs.Plain.{Braceless, endIn, labels-all, body-all, test-all, block-all, flats-all}
+use Rattle.structure.proofs.Plain.{Braceless, Stands, labels-all, body-all, test-all, block-all, flats-all}
 
 -- whatever nests, nests with these lines in front
 abbrev Flat : List Line → Type 0
@@ -25,7 +25,7 @@ flat-none st ys n = n
 flat-join : (xs ys : List Line) → Flat xs → Flat ys → Flat (xs ++ ys)
 flat-join xs ys p q st zs n = rw append-assoc (p st (ys ++ zs) (q st zs n))
 
-flat-one : (blocks : List ℕ) (d k : ℕ) (w : What) (i e : ℕ) → Braceless w → i ≤ endIn blocks k → e ≤ d → Flat (line w k i e ∷ [])
+flat-one : (blocks : List ℕ) (d k : ℕ) (w : What) (i e : ℕ) → Braceless w → Stands blocks w k i → e ≤ d → Flat (line w k i e ∷ [])
 flat-one blocks d k label-line i e l q h st ys n = n
 flat-one blocks d k if-goto i e l q h st ys n = n
 flat-one blocks d k goto-line i e l q h st ys n = n
@@ -79,7 +79,7 @@ pub shallow-wider : (m n : ℕ) (xs : List Line) → m ≤ n → Shallow m xs �
 shallow-wider m n [] h p = p
 shallow-wider m n (x ∷ xs) h p = (omega arith, shallow-wider m n xs h (p .1))
 
-low : (blocks : List ℕ) (m d : ℕ) → d < m → (k : ℕ) (w : What) (i e : ℕ) → Braceless w → i ≤ endIn blocks k → e ≤ d → Shallow m (line w k i e ∷ [])
+low : (blocks : List ℕ) (m d : ℕ) → d < m → (k : ℕ) (w : What) (i e : ℕ) → Braceless w → Stands blocks w k i → e ≤ d → Shallow m (line w k i e ∷ [])
 low blocks m d h k w i e l q p = (omega arith, tt)
 
 module _ (blocks edges shown : List ℕ) (B m : ℕ) where

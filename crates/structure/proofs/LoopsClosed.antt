@@ -12,7 +12,7 @@ use Rattle.structure.specs.Tree.Tree.{over, plain, region, loop}
 use Rattle.structure.specs.Plan.{What, Line, line, labelIf, labelled, headLabelled, bodyLines, plainLines, loopLines, testBlock, regionLines, treeLines, rangeLines, planOf}
 use Rattle.structure.specs.Plan.What.{label-line, do-line, open-line, if-goto, while-line, close-line, goto-line, tail-call, insn-line}
 use Rattle.structure.proofs.Grown.{Fits, tree-fits}
-use Rattle.structure.proofs.Plain.{Braceless, endIn, labels-all, body-all, test-all, block-all, flats-all}
+use Rattle.structure.proofs.Plain.{Braceless, Stands, labels-all, body-all, test-all, block-all, flats-all}
 
 -- a line of place k and instruction `at`, read with the place i of the latest do-line; then the rest of the lines
 abbrev pub loopThen : (ℕ → ℕ → ℕ → Type 0) → What → ℕ → ℕ → ℕ → (ℕ → Type 0) → Type 0
@@ -49,7 +49,7 @@ module _ (blocks edges shown : List ℕ) (B m : ℕ) where
   passed-join : (xs ys : List Line) → Passed xs → Passed ys → Passed (xs ++ ys)
   passed-join xs ys p q i zs r = rw append-assoc (p i (ys ++ zs) (q i zs r))
 
-  passed-one : (d k : ℕ) (w : What) (i e : ℕ) → Braceless w → i ≤ endIn blocks k → e ≤ d → Passed (line w k i e ∷ [])
+  passed-one : (d k : ℕ) (w : What) (i e : ℕ) → Braceless w → Stands blocks w k i → e ≤ d → Passed (line w k i e ∷ [])
   passed-one d k label-line i e l q h at ys p = p
   passed-one d k if-goto i e l q h at ys p = p
   passed-one d k goto-line i e l q h at ys p = p

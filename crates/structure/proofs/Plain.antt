@@ -1,12 +1,14 @@
 -- Lines that open and close no brace: what holds of no line, of each such line up to an indent, and of two runs if of both, holds of a
--- block's lines. One walk serves every fact of that kind; each line is of its block's place, and of an instruction up to its block's end.
-use mathlib.Core.Bool.{Bool, _||_}
+-- block's lines. One walk serves every fact of that kind; each line is of its block's place, and of an instruction as it says.
+use mathlib.Core.Path.{_≡_, refl}
+use mathlib.Core.Bool.{Bool, true, _||_, or-true}
 use mathlib.Core.List.{List, [], _∷_, _++_}
-use Prim.Native.Nat.{ℕ, zero, suc, _+_, _-_, _≤_, _<_, zero-le}
+use Prim.Native.Nat.{ℕ, zero, suc, _+_, _-_, _≤_, _<_}
 use native.Mathlib.Nat.{le-refl}
 use native.Mathlib.Omega.{arith}
+use lib.Dec.{eqb}
 use Rattle.lists.specs.Choice.{pick}
-use Rattle.cfg.specs.Graph.{firstIn, countIn, endsInBranch, endsInJmp, branchTo, isBlock, lastIn, isShown}
+use Rattle.cfg.specs.Graph.{firstIn, countIn, endingIn, hasCondition, endsInBranch, endsInJmp, branchTo, isBlock, lastIn, isShown}
 use Rattle.cfg.proofs.Within.{pick-both}
 use Rattle.structure.specs.Plan.{What, Line, line, labelIf, innerLabelled, shownLines, bodyCount, bodyLines, goesNext, jumpLines, closingLines, blockLines, flatLines}
 use Rattle.structure.specs.Plan.What.{label-line, do-line, open-line, if-goto, while-line, close-line, goto-line, tail-call, insn-line}
@@ -27,6 +29,19 @@ Braceless close-line = ⊥
 abbrev pub endIn : List ℕ → ℕ → ℕ
 endIn blocks k = firstIn blocks k + countIn blocks k
 
+-- which instruction a line of block k has, by what it is written for: none, the block's last, which has a condition where the line shows
+-- one, or one of the block's
+abbrev pub Stands : List ℕ → What → ℕ → ℕ → Type 0
+Stands blocks label-line k i = i ≡ 0
+Stands blocks do-line k i = i ≡ 0
+Stands blocks close-line k i = i ≡ 0
+Stands blocks open-line k i = (i ≡ lastIn blocks k) × (hasCondition blocks k ≡ true)
+Stands blocks if-goto k i = (i ≡ lastIn blocks k) × (hasCondition blocks k ≡ true)
+Stands blocks while-line k i = (i ≡ lastIn blocks k) × (hasCondition blocks k ≡ true)
+Stands blocks goto-line k i = i ≡ lastIn blocks k
+Stands blocks tail-call k i = i ≡ lastIn blocks k
+Stands blocks insn-line k i = i < endIn blocks k
+
 body-within : (blocks : List ℕ) (k : ℕ) → bodyCount blocks k ≤ countIn blocks k
 unfolding bodyCount
 body-within blocks k =
@@ -35,11 +50,11 @@ body-within blocks k =
 module _ (blocks shown : List ℕ) (P : List Line → Type 0) (none : P []) (join : (xs ys : List Line) → P xs → P ys → P (xs ++ ys)) (d : ℕ) where
   -- what is known of each line of block k
   abbrev pub One : ℕ → Type 0
-  One k = (w : What) (i e : ℕ) → Braceless w → i ≤ endIn blocks k → e ≤ d → P (line w k i e ∷ [])
+  One k = (w : What) (i e : ℕ) → Braceless w → Stands blocks w k i → e ≤ d → P (line w k i e ∷ [])
 
   module _ (k : ℕ) (one : One k) where
     pub labels-all : (b : Bool) → P (labelIf b k d)
-    labels-all b = pick-both P b _ _ (λ _. one label-line 0 (d - 1) tt zero-le (omega arith)) (λ _. none)
+    labels-all b = pick-both P b _ _ (λ _. one label-line 0 (d - 1) tt refl (omega arith)) (λ _. none)
 
     lines-all : (i n : ℕ) → i + n ≤ endIn blocks k → P (shownLines shown k i n d)
     unfolding shownLines
@@ -56,19 +71,19 @@ module _ (blocks shown : List ℕ) (P : List Line → Type 0) (none : P []) (joi
     pub test-all : P (shownLines shown k (firstIn blocks k) (countIn blocks k - 1) d)
     test-all = lines-all (firstIn blocks k) (countIn blocks k - 1) (omega arith)
 
-    last-one : (w : What) → Braceless w → P (line w k (lastIn blocks k) d ∷ [])
-    last-one w l = one w (lastIn blocks k) d l (omega arith) (le-refl d)
+    last-one : (w : What) → Braceless w × Stands blocks w k (lastIn blocks k) → P (line w k (lastIn blocks k) d ∷ [])
+    last-one w l = one w (lastIn blocks k) d (l .0) (l .1) (le-refl d)
 
     jump-all : (to : ℕ) → P (jumpLines blocks k to d)
     jump-all to =
         pick-both P (goesNext blocks k to) _ _ (λ _. none)
         (λ _. last-one (pick (isBlock (branchTo blocks k)) goto-line tail-call)
-        (pick-both Braceless (isBlock (branchTo blocks k)) goto-line tail-call (λ _. tt) (λ _. tt)))
+        (pick-both (λ w. Braceless w × Stands blocks w k (lastIn blocks k)) (isBlock (branchTo blocks k)) goto-line tail-call (λ _. (tt, refl)) (λ _. (tt, refl))))
 
     closing-all : (to : ℕ) → P (closingLines blocks k to d)
     unfolding closingLines
     closing-all to =
-        pick-both P (endsInBranch blocks k) _ _ (λ _. last-one if-goto tt)
+        pick-both P (endsInBranch blocks k) _ _ (λ e. last-one if-goto (tt, (refl, rw e (or-true (eqb (endingIn blocks k) 1)))))
         (λ _. pick-both P (endsInJmp blocks k) _ _ (λ _. jump-all to) (λ _. none))
 
     pub block-all : (b : Bool) (to : ℕ) → P (blockLines blocks shown b k to d)

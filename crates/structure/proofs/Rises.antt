@@ -13,7 +13,7 @@ use Rattle.structure.specs.Plan.{What, Line, line, labelIf, labelled, he
 use Rattle.structure.specs.Plan.What.{label-line, do-line, open-line, if-goto, while-line, close-line, goto-line, tail-call, insn-line}
 use Rattle.structure.specs.Demand.{Rising}
 use Rattle.structure.proofs.Grown.{Fits, tree-fits}
-use Rattle.structure.proofs.Plain.{Braceless, endIn, labels-all, body-all, test-all, block-all}
+use Rattle.structure.proofs.Plain.{Braceless, Stands, labels-all, body-all, test-all, block-all}
 
 -- of lines with places from a to b: whatever rises from each place up to b, rises from each up to a with these lines in front
 abbrev Climb : ℕ → ℕ → List Line → Type 0
@@ -44,7 +44,7 @@ module _ (blocks : List ℕ) (k : ℕ) where
   join : (xs ys : List Line) → Climb k k xs → Climb k k ys → Climb k k (xs ++ ys)
   join xs ys = climb-join k k k k xs ys (le-refl k)
 
-  one : (d : ℕ) (w : What) (i e : ℕ) → Braceless w → i ≤ endIn blocks k → e ≤ d → Climb k k (line w k i e ∷ [])
+  one : (d : ℕ) (w : What) (i e : ℕ) → Braceless w → Stands blocks w k i → e ≤ d → Climb k k (line w k i e ∷ [])
   one d w i e l q h = line-climb k w i e
 
 module _ (blocks edges shown : List ℕ) (B : ℕ) where

@@ -1,6 +1,6 @@
 -- The laws of a number's decimal text: one digit, one digit more, and how many there are.
 -- More division steps than digits change nothing, so the text of v is that of v / 10 and one digit.
-use mathlib.Core.Path.{_≡_, ap}
+use mathlib.Core.Path.{_≡_, ap, _∙_}
 use mathlib.Core.List.{List, [], _∷_, _++_}
 use Prim.Native.Nat.{ℕ, zero, suc, _+_, _*_, _^_, _/_, _%_, _≤_, _<_}
 use native.Mathlib.Decide.{decLe}
@@ -37,3 +37,15 @@ decimal-count-one v h = ap length (decimal-one v h)
 
 pub decimal-count-more : (v : ℕ) → 10 ≤ v → v < 2 ^ 64 → length (decimalText v) ≡ length (decimalText (v / 10)) + 1
 decimal-count-more v a h = rw (decimal-more v a h, length-append)
+
+pub decimal-two : (v : ℕ) → 10 ≤ v → v < 100 → decimalText v ≡ (48 + v / 10) ∷ (48 + v % 10) ∷ []
+decimal-two v a h = decimal-more v a (omega arith) ∙ rw (decimal-one (v / 10) (omega arith))
+
+-- no number is without digits
+pub decimal-some : (v : ℕ) → 1 ≤ length (decimalText v)
+unfolding decimalOf
+decimal-some v =
+    elim (decLe 10 v) [
+      | yes a ↦ rw (le-ltb v 10 a, length-append) (omega arith)
+      | no a ↦ rw (lt-ltb v 10 (omega arith)) (omega arith)
+    ]

@@ -2,3 +2,4 @@ pub mod LiteralLaws
 pub mod DigitLaws
 pub mod ByteLaws
 pub mod DecimalLaws
+pub mod DecimalDigits

@@ -4,5 +4,6 @@ pub mod Negate
 pub mod Rule
 pub mod Columns
 pub mod Past
+pub mod Named
 pub mod Positions
 pub mod Written

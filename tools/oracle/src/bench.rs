@@ -1,5 +1,7 @@
 //! The port's speed against the Rust's, on the same records, in one run.
 
+pub mod rows;
+
 use std::hint::black_box;
 use std::time::{Duration, Instant};
 

@@ -1,5 +1,7 @@
 //! The comparisons. Each ends with the line `WHAT: N compared, M differ`.
 
+pub mod rows;
+
 use std::collections::BTreeSet;
 use std::path::PathBuf;
 
@@ -19,8 +21,14 @@ use crate::rng::Rng;
 pub type Comparison = fn(u64, usize) -> Result<bool, String>;
 
 /// The comparisons by name. `tools/compare` has the same names, with the number of cases.
-pub const COMPARISONS: &[(&str, Comparison)] =
-    &[("questions", questions), ("pieces", pieces), ("lines", lines), ("listing", whole), ("sanity", sanity)];
+pub const COMPARISONS: &[(&str, Comparison)] = &[
+    ("questions", questions),
+    ("pieces", pieces),
+    ("lines", lines),
+    ("listing", whole),
+    ("rows", rows::rows),
+    ("sanity", sanity),
+];
 
 /// Calls made from each valid record, itself included.
 const CALLS_A_RECORD: usize = 8;
@@ -33,41 +41,46 @@ pub fn record(seed: u64) -> Vec<u8> {
 /// Counts what was compared, and keeps the first case that differs.
 struct Tally {
     what: &'static str,
+    /// The name of the file that keeps the first case; without one the cases are counted alone.
+    kept: Option<String>,
     compared: usize,
     differ: usize,
 }
 
 impl Tally {
     fn new(what: &'static str) -> Tally {
-        Tally { what, compared: 0, differ: 0 }
+        Tally::keeping(what, Some(format!("{what}.record")))
+    }
+
+    fn keeping(what: &'static str, kept: Option<String>) -> Tally {
+        Tally { what, kept, compared: 0, differ: 0 }
     }
 
     fn differs(&mut self, call: &Call, words: impl FnOnce() -> String) -> Result<(), String> {
-        self.differ += 1;
-        if self.differ > 1 {
-            return Ok(());
-        }
-        let file = self.keep(&call.bytes)?;
-        println!("{}: the first that differs is kept in {}", self.what, file.display());
-        println!("  {}", describe(call));
-        println!("  {}", words());
-        Ok(())
+        self.differs_in(&call.bytes, || format!("{}\n  {}", describe(call), words()))
     }
 
-    /// COMPARE_DIR names the folder; `target/compare` otherwise.
-    fn keep(&self, bytes: &[u8]) -> Result<PathBuf, String> {
-        let dir = PathBuf::from(std::env::var_os("COMPARE_DIR").unwrap_or_else(|| "target/compare".into()));
-        let file = dir.join(format!("{}.record", self.what));
-        std::fs::create_dir_all(&dir)
-            .and_then(|()| std::fs::write(&file, bytes))
-            .map_err(|e| format!("{}: {e}", file.display()))?;
-        Ok(file)
+    fn differs_in(&mut self, bytes: &[u8], words: impl FnOnce() -> String) -> Result<(), String> {
+        self.differ += 1;
+        let Some(kept) = self.kept.as_ref().filter(|_| self.differ == 1) else { return Ok(()) };
+        let file = keep(kept, bytes)?;
+        println!("{}: the first that differs is kept in {}", self.what, file.display());
+        println!("  {}", words());
+        Ok(())
     }
 
     fn end(&self) -> bool {
         println!("{}: {} compared, {} differ", self.what, self.compared, self.differ);
         self.differ == 0
     }
+}
+
+/// Keeps a case in the folder that COMPARE_DIR names, or in `target/compare`.
+fn keep(name: &str, bytes: &[u8]) -> Result<PathBuf, String> {
+    let dir = PathBuf::from(std::env::var_os("COMPARE_DIR").unwrap_or_else(|| "target/compare".into()));
+    let file = dir.join(name);
+    std::fs::create_dir_all(&dir).and_then(|()| std::fs::write(&file, bytes)).map_err(|e| format!("{}: {e}", file.display()))?;
+    Ok(file)
 }
 
 /// A call in words: the length, the range and the header's fields.

@@ -1,5 +1,5 @@
 //! What the port is compared with: the unchanged Rust emitter over a record, the amended one where document 02 departs from it, and the
-//! questions of documents 01 and 02 written a second time.
+//! questions and rows of documents 01 and 02 written a second time.
 
 pub mod compare;
 pub mod damage;
@@ -17,6 +17,7 @@ pub mod questions;
 pub mod record;
 pub mod replay;
 pub mod rng;
+pub mod rows;
 
 #[cfg(feature = "abi")]
 pub mod bench;

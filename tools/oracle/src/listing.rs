@@ -55,17 +55,22 @@ pub fn list(bytes: &[u8], from: usize, to: usize) -> Result<Listing, String> {
 
 /// What the program `listing` prints for this input, or the message of the Rust's panic.
 pub fn program(input: &[u8]) -> Result<Vec<u8>, String> {
+    Ok(program_lists(input)?.map_or_else(refusal, |listing| listing.print()))
+}
+
+/// The listing that the program `listing` prints, or the number of its refusal; or the message of the Rust's panic.
+pub fn program_lists(input: &[u8]) -> Result<Result<Listing, u8>, String> {
     let bytes = &input[..input.len().min(MOST_INPUT + 1)];
     let blocks = if bytes.len() >= HEADER { Layout::of(bytes).b } else { 0 };
     let no = questions::first_no(bytes, 0, blocks);
     if no != 0 {
-        return Ok(refusal(no));
+        return Ok(Err(no));
     }
     let listing = list(bytes, 0, blocks)?;
     Ok(match (listing.text.len() > MOST_TEXT, listing.token_ends.len() > MOST_TOKENS) {
-        (true, _) => refusal(12),
-        (_, true) => refusal(13),
-        _ => listing.print(),
+        (true, _) => Err(12),
+        (_, true) => Err(13),
+        _ => Ok(listing),
     })
 }
 

@@ -10,7 +10,7 @@ pub struct Left {
 }
 
 /// Seven lists, as lent to the port.
-#[derive(Clone, PartialEq, Eq)]
+#[derive(Clone, Debug, PartialEq, Eq)]
 pub struct Lists {
     pub text: Vec<u8>,
     pub ends: Vec<u32>,
@@ -22,7 +22,7 @@ pub struct Lists {
 }
 
 /// The number that refuses a list too short, for each of the seven in turn.
-const TOO_SHORT: [u8; 7] = [12, 13, 13, 14, 14, 14, 14];
+pub const TOO_SHORT: [u8; 7] = [12, 13, 13, 14, 14, 14, 14];
 
 /// The lengths of lists that fit a listing of these sizes.
 pub fn fitting([text, tokens, lines]: [usize; 3]) -> [usize; 7] {
@@ -67,6 +67,18 @@ impl Lists {
         self.marks[..l].copy_from_slice(&ours.line_marks);
         self.places[..l].copy_from_slice(&ours.line_places);
         self.line_ends[..l].copy_from_slice(&ours.line_ends);
+        self
+    }
+
+    /// The first entries, so many of each list.
+    pub fn cut(mut self, [text, ends, kinds, addresses, marks, places, line_ends]: [usize; 7]) -> Lists {
+        self.text.truncate(text);
+        self.ends.truncate(ends);
+        self.kinds.truncate(kinds);
+        self.addresses.truncate(addresses);
+        self.marks.truncate(marks);
+        self.places.truncate(places);
+        self.line_ends.truncate(line_ends);
         self
     }
 

@@ -3,16 +3,24 @@
 use std::io::{Read, Write};
 use std::process::ExitCode;
 
+use oracle::rows::{self, programs};
 use oracle::{compare, listing, questions, record, replay};
 
 const USAGE: &str = "usage: oracle list FILE [FROM TO]     the Rust's listing of a record (- for standard input)
+       oracle to-csv FILE            the rows of that listing, as the program to_csv prints them
+       oracle from-csv FILE          the listing of rows, as the program from_csv prints it
+       oracle rows-file SEED         a generated file of rows, to standard output
+       oracle rows-fields SEED       its fields, in hexadecimal
        oracle example                the record of document 01's example, to standard output
        oracle questions SEED COUNT   compare the port's questions of a record and a range
        oracle pieces SEED COUNT      compare the port's operands, memory operands and conditions with the Rust's
        oracle lines SEED COUNT       compare the port's instruction lines with the Rust's
        oracle listing SEED COUNT     compare the port's listings with the Rust's
+       oracle rows SEED COUNT        compare the port's rows, written and read, with the second implementation's
        oracle sanity SEED COUNT      generated records against the questions, the Rust and demand 3
        oracle bench [SET rust|port]  the port's speed against the Rust's; one listing each of a set's records
+       oracle bench-rows FOLDER      the port's speed with rows, and the files into a folder
+       oracle bench-rows SET WAY     one call for each listing of a set, to write or to read
        oracle record SEED            a generated record, to standard output
        oracle replay COUNT SEED      calls with their answers for the replay program, to standard output";
 
@@ -23,6 +31,10 @@ fn main() -> ExitCode {
     let done = match words[..] {
         ["list", file] => list(file, None),
         ["list", file, from, to] => number(from).and_then(|f| number(to).and_then(|t| list(file, Some((f, t))))),
+        ["to-csv", file] => read(file).and_then(|bytes| write(&programs::to_csv(&bytes)?)),
+        ["from-csv", file] => read(file).and_then(|bytes| write(&programs::from_csv(&bytes))),
+        ["rows-file", seed] => number(seed).and_then(|s| write(&rows::file(&rows::any::many(s as u64)))),
+        ["rows-fields", seed] => number(seed).and_then(|s| write(programs::fields(&rows::any::many(s as u64)).as_bytes())),
         ["example"] => write(&record::example().to_bytes()),
         ["record", seed] => number(seed).and_then(|s| write(&compare::record(s as u64))),
         ["replay", count, seed] => number(count).and_then(|n| number(seed).and_then(|s| write(&replay::corpus(n, s as u64)?))),
@@ -30,6 +42,10 @@ fn main() -> ExitCode {
         ["witnesses", count] => number(count).and_then(witnesses),
         #[cfg(feature = "abi")]
         ["bench"] => oracle::bench::run(),
+        #[cfg(feature = "abi")]
+        ["bench-rows", folder] => oracle::bench::rows::run(folder),
+        #[cfg(feature = "abi")]
+        ["bench-rows", set, way] => oracle::bench::rows::once(set, way),
         #[cfg(feature = "abi")]
         ["bench", set, "rust"] => oracle::bench::once(set, true),
         #[cfg(feature = "abi")]

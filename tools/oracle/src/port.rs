@@ -2,17 +2,21 @@
 
 use crate::lists::{Left, Lists};
 use crate::pieces::Tokens;
+use crate::rows::Written;
 
 pub struct Port {
     pub first_no: fn(&[u8], usize, usize) -> u8,
     pub piece_tokens: fn(&[u8], u16, u16, u8) -> Tokens,
     pub list: fn(&[u8], usize, usize, Lists) -> Left,
+    /// Lists, their sizes, and a list for the rows.
+    pub write_rows: fn(&Lists, [usize; 3], Vec<u8>) -> Written,
+    pub read_rows: fn(&[u8], Lists) -> Left,
 }
 
 #[cfg(feature = "comparison")]
 pub fn linked() -> Result<Port, String> {
     use crate::exports;
-    Ok(Port { first_no: exports::first_no, piece_tokens: exports::piece, list })
+    Ok(Port { first_no: exports::first_no, piece_tokens: exports::piece, list, write_rows, read_rows })
 }
 
 #[cfg(not(feature = "comparison"))]
@@ -23,11 +27,46 @@ pub fn linked() -> Result<Port, String> {
 /// One call on lent lists.
 #[cfg(feature = "abi")]
 pub fn list(bytes: &[u8], from: usize, to: usize, mut lists: Lists) -> Left {
-    let (no, sizes) = match cakirotu::list_into(bytes, (from, to), &mut slices(&mut lists)) {
+    let answer = cakirotu::list_into(bytes, (from, to), &mut slices(&mut lists));
+    left(answer, lists)
+}
+
+#[cfg(feature = "abi")]
+fn left(answer: Result<cakirotu::Sizes, cakirotu::Refusal>, lists: Lists) -> Left {
+    let (no, sizes) = match answer {
         Ok(sizes) => (0, sizes),
         Err(refusal) => (refusal.number(), cakirotu::Sizes::default()),
     };
     Left { no, sizes: [sizes.text, sizes.tokens, sizes.lines], lists }
+}
+
+#[cfg(feature = "abi")]
+pub fn read_rows(file: &[u8], mut lists: Lists) -> Left {
+    let answer = cakirotu::read_rows_into(file, &mut slices(&mut lists));
+    left(answer, lists)
+}
+
+#[cfg(feature = "abi")]
+pub fn write_rows(lists: &Lists, [text, tokens, lines]: [usize; 3], mut out: Vec<u8>) -> Written {
+    let (no, size) = match cakirotu::write_rows_into(&held(lists), cakirotu::Sizes { text, tokens, lines }, &mut out) {
+        Ok(size) => (0, size),
+        Err(refusal) => (refusal.number(), 0),
+    };
+    Written { no, size, out }
+}
+
+/// The lists as the binding reads them.
+#[cfg(feature = "abi")]
+pub fn held(lists: &Lists) -> cakirotu::Held<'_> {
+    cakirotu::Held {
+        text: &lists.text,
+        ends: &lists.ends,
+        kinds: &lists.kinds,
+        addresses: &lists.addresses,
+        marks: &lists.marks,
+        places: &lists.places,
+        lines: &lists.line_ends,
+    }
 }
 
 /// The lists as the binding takes them.

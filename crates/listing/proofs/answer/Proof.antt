@@ -8,8 +8,11 @@ use lib.ListN.{length, length-replicate}
 use Rattle.lists.specs.Put.{put}
 use Rattle.record.specs.declared.header.Header.{Header}
 use Rattle.operand.proofs.Bounds.{AllBytes}
-use Rattle.listing.proofs.Outputs.{stands-whole, no-output, few-lines, short-text, page-output, short-output}
-use Rattle.listing.proofs.Prints.{prints}
+use Rattle.page.specs.Page.{pageOf}
+use Rattle.page.proofs.Pieces.{stands-whole}
+use Rattle.program.proofs.Lent.{no-output, few-lines, short-text}
+use Rattle.listing.proofs.Outputs.{page-output, short-output}
+use Rattle.listing.proofs.Prints.{page-prints}
 use borrow.Author.Needs.{needs}
 use Rattle.listing.proofs.answer.Statement.{statement}
 use Rattle.listing.proofs.answer.Tie as tie
@@ -106,7 +109,7 @@ returns c =
     let short = short-output s _ whole _ _ ((c .before .before .before .before .before .before .before .before .before .before .before .before .before .before .before .before .before .before .before .before .before .before .before .before .list) .ensures .called) _ ((c .before .before .before .before .before .before .before .before .before .before .before .before .before .before .before .z) .given .1) bytes (kept .0 ∙ length-replicate {A = ℕ} 65536 0) (kept .1 .1 .1 .0 ∙ length-replicate {A = ℕ} 900 0) in
     let end = (c .before .before .put-page) .ensures .0 ∙ ap length p in
     let text = (c .before .before .put-page) .ensures .1 ∙ ap (λ (t : List ℕ). put 0 t out) p in
-    ((end, omega (arith, end, short)), (text, λ room. prints s _ (stands-whole _ out _ _ end text (omega (arith, end, short, room)))))
+    page-prints s _ (stands-whole _ out _ _ end text (omega (arith, end, short, c .before .before .before .before .before .before .before .before .before .before .before .before .before .before .before .before .before .before .before .before .before .before .before .before .before .before .before .before .before .before .before .before .before .before .before .before .pre)))
 
 same-length-2 : tie.Need-same-length-2
 same-length-2 c = search needs
@@ -116,11 +119,11 @@ returns-2 c =
     let s = (c .before .before .before .before .before .before .before .before .before .before .before .before .before .before .before .before .before .before .before .before .before .before .before .before .before .before .args) .rec .now in
     let out = (c .before .before .before .before .before .before .before .before .before .before .before .before .before .before .before .before .before .before .before .before .before .before .before .before .before .before .args) .out .now in
     let whole = (c .before .before .before .before .before .before .before .before .before .before .before .before .before .before .before .before .before .before .before .before .before .before .size) .ensures .0 ∙ ap (λ (h : Header). h .blocks) ((c .before .before .before .before .before .before .before .before .before .before .before .before .before .before .before .before .before .before .before .before .before .before .before .read-header) .ensures) in
-    let p = no-output s _ whole _ _ ((c .before .before .before .before .before .before .before .before .before .before .before .before .before .before .list) .ensures .called) _ ((c .before .before .before .before .before .n) .given .1) in
+    let p = no-output s _ whole _ _ ((c .before .before .before .before .before .before .before .before .before .before .before .before .before .before .list) .ensures .called) pageOf _ ((c .before .before .before .before .before .n) .given .1) in
     let end = (c .before .before .put-refusal) .ensures .0 .0 ∙ sym (ap length p) in
     let text = (c .before .before .put-refusal) .ensures .1 ∙ sym (ap (λ (t : List ℕ). put 0 t out) p) in
     let short = (c .before .before .put-refusal) .ensures .0 .1 in
-    ((end, omega (arith, short)), (text, λ room. prints s _ (stands-whole _ out _ _ end text (omega (arith, short, room)))))
+    page-prints s _ (stands-whole _ out _ _ end text (omega (arith, short, c .before .before .before .before .before .before .before .before .before .before .before .before .before .before .before .before .before .before .before .before .before .before .before .before .before .before .pre)))
 
 pub answer-spec : {M : Type 1} → statement M
 answer-spec =

@@ -22,16 +22,16 @@ store-requires-2 : tie.Need-store-requires-2
 store-requires-2 c κs = search needs
 
 add-put-decimal-2 : tie.Need-add-put-decimal-2
-add-put-decimal-2 c = omega (arith, c .before .before .before .before .before .before .before .before .before .before .before .before .before .before .before .before .before .before .pre, head-length (c .before .before .before .before .before .before .before .before .before .before .before .before .before .before .before .before .before .before .args .mark) (c .before .before .before .before .before .before .before .before .before .before .before .before .before .before .before .before .before .before .args .address) (c .before .before .before .before .before .before .before .before .before .before .before .before .before .before .before .before .before .before .args .place), c .before .before .before .before .before .before .before .before .before .before .before .before .before .before .before .put-address .ensures .end, c .before .before .before .before .before .before .before .put-decimal .ensures .end)
+add-put-decimal-2 c = omega (arith, c .before .before .before .before .before .before .before .before .before .before .before .before .before .before .before .before .before .before .pre, head-length (c .before .before .before .before .before .before .before .before .before .before .before .before .before .before .before .before .before .before .args .mark) (c .before .before .before .before .before .before .before .before .before .before .before .before .before .before .before .before .before .before .args .address) (c .before .before .before .before .before .before .before .before .before .before .before .before .before .before .before .before .before .before .args .place), c .before .before .before .before .before .before .before .before .before .before .before .before .before .before .before .put-address .ensures .end, c .before .before .before .before .before .before .before .put-decimal .ensures .0 .0)
 
 put-decimal-requires-2 : tie.Need-put-decimal-requires-2
-put-decimal-requires-2 c κs = omega (arith, c .before .before .before .before .before .before .before .before .before .before .before .before .before .before .before .before .before .before .pre, head-length (c .before .before .before .before .before .before .before .before .before .before .before .before .before .before .before .before .before .before .args .mark) (c .before .before .before .before .before .before .before .before .before .before .before .before .before .before .before .before .before .before .args .address) (c .before .before .before .before .before .before .before .before .before .before .before .before .before .before .before .before .before .before .args .place), c .before .before .before .before .before .before .before .before .before .before .before .before .before .before .before .put-address .ensures .end, c .before .before .before .before .before .before .before .put-decimal .ensures .end)
+put-decimal-requires-2 c κs = omega (arith, c .before .before .before .before .before .before .before .before .before .before .before .before .before .before .before .before .before .before .pre, head-length (c .before .before .before .before .before .before .before .before .before .before .before .before .before .before .before .before .before .before .args .mark) (c .before .before .before .before .before .before .before .before .before .before .before .before .before .before .before .before .before .before .args .address) (c .before .before .before .before .before .before .before .before .before .before .before .before .before .before .before .before .before .before .args .place), c .before .before .before .before .before .before .before .before .before .before .before .before .before .before .before .put-address .ensures .end, c .before .before .before .before .before .before .before .put-decimal .ensures .0 .0)
 
 same-length : tie.Need-same-length
 same-length c = search needs
 
 returns : tie.Need-returns
-returns c = head-wrote _ _ _ (c .before .before .before .before .before .before .before .before .before .before .before .before .before .before .before .before .before .before .put-address .ensures) (c .before .before .before .before .before .before .before .before .before .before .before .before .before .before .store .ensures) (c .before .before .before .before .before .before .before .before .before .before .put-decimal .ensures) (c .before .before .before .before .before .before .store2 .ensures) (c .before .before .put-decimal2 .ensures)
+returns c = head-wrote _ _ _ (c .before .before .before .before .before .before .before .before .before .before .before .before .before .before .before .before .before .before .put-address .ensures) (c .before .before .before .before .before .before .before .before .before .before .before .before .before .before .store .ensures) (record { end = c .before .before .before .before .before .before .before .before .before .before .put-decimal .ensures .0 .0; text = c .before .before .before .before .before .before .before .before .before .before .put-decimal .ensures .1 }) (c .before .before .before .before .before .before .store2 .ensures) (record { end = c .before .before .put-decimal2 .ensures .0 .0; text = c .before .before .put-decimal2 .ensures .1 })
 
 pub put-head-spec : {M : Type 1} → statement M
 put-head-spec =

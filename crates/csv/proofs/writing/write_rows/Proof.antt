@@ -21,10 +21,10 @@ same-length : tie.Need-same-length
 same-length c = search needs
 
 returns : tie.Need-returns
-returns c = wrote _ _ _ (sym (c .before .before .before .before .before .before .if1 .taken) ∙ (c .before .before .before .before .before .before .before .lists-hold .ensures)) (c .before .before .before .before .before .file-size .ensures) (omega (arith, c .before .before .before .before .if2 .taken)) (c .before .before .put-rows .ensures) (λ i. omega (arith, (c .before .before .before .before .before .before .before .before .before .before .before .before .shared-slice-known4 .given) i)) (λ i. omega (arith, (c .before .before .before .before .before .before .before .before .before .before .shared-slice-known6 .given) i))
+returns c = wrote _ _ _ (sym (c .before .before .before .before .before .before .if1 .taken) ∙ (c .before .before .before .before .before .before .before .lists-hold .ensures)) (c .before .before .before .before .before .file-size .ensures) (omega (arith, c .before .before .before .before .if2 .taken)) (c .before .before .put-rows .ensures) (λ i. omega (arith, (c .before .before .before .before .before .before .before .before .before .before .before .before .before .before .shared-slice-known2 .given) i)) (λ i. omega (arith, (c .before .before .before .before .before .before .before .before .before .before .before .before .shared-slice-known4 .given) i)) (λ i. omega (arith, (c .before .before .before .before .before .before .before .before .before .before .shared-slice-known6 .given) i)) (λ i. omega (arith, (c .before .before .before .before .before .before .before .before .before .shared-slice-known7 .given) i))
 
 returns-2 : tie.Need-returns-2
-returns-2 c = short _ _ _ (sym (c .before .before .if1 .taken) ∙ (c .before .before .before .lists-hold .ensures)) (c .before .file-size .ensures) (omega (arith, c .if2 .left))
+returns-2 c = short _ _ _ (sym (c .before .before .if1 .taken) ∙ (c .before .before .before .lists-hold .ensures)) (c .before .file-size .ensures) (omega (arith, c .if2 .left)) (λ i. omega (arith, (c .before .before .before .before .before .before .shared-slice-known6 .given) i))
 
 returns-3 : tie.Need-returns-3
 returns-3 c = refused _ _ _ (sym (c .if1 .left) ∙ (c .before .lists-hold .ensures))

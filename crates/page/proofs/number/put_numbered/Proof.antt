@@ -1,6 +1,7 @@
 -- `number::put_numbered` meets its contract.
 -- The word, the number and LF, one behind the other.
 use native.Mathlib.Omega.{arith}
+use Rattle.text.proofs.DecimalDigits.{digits-few}
 use Rattle.page.proofs.Pieces.{numbered-puts}
 use borrow.Author.Needs.{needs}
 use Rattle.page.proofs.number.put_numbered.Statement.{statement}
@@ -10,7 +11,7 @@ put-bytes-requires : tie.Need-put-bytes-requires
 put-bytes-requires c κs = search needs
 
 put-decimal-requires : tie.Need-put-decimal-requires
-put-decimal-requires c κs = search needs
+put-decimal-requires c κs = omega (arith, (c .before .before .before .before .before .before .before .pre), (c .before .before .before .put-bytes .ensures .0), digits-few (c .before .before .before .before .before .before .before .args .n) (omega arith))
 
 store-requires : tie.Need-store-requires
 store-requires c κs = search needs

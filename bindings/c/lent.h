@@ -1,0 +1,86 @@
+/* What the C tests share: checks that are counted, and lists in memory of just their length, so that a memory checker sees every step past
+ * them. */
+#ifndef LENT_H
+#define LENT_H
+
+#include "cakirotu.h"
+
+#include <stdio.h>
+#include <stdlib.h>
+#include <string.h>
+
+#define LISTS 7
+
+static const size_t ENTRY[LISTS] = {sizeof(uint8_t),  sizeof(uint32_t), sizeof(uint8_t), sizeof(uint64_t),
+                                    sizeof(uint16_t), sizeof(uint16_t), sizeof(uint32_t)};
+static const uint8_t TOO_SHORT[LISTS] = {CAKIROTU_NO_TEXT_ROOM, CAKIROTU_NO_TOKEN_ROOM, CAKIROTU_NO_TOKEN_ROOM, CAKIROTU_NO_LINE_ROOM,
+                                         CAKIROTU_NO_LINE_ROOM, CAKIROTU_NO_LINE_ROOM,  CAKIROTU_NO_LINE_ROOM};
+static int passed;
+
+#define CHECK(what)                                                            \
+    do {                                                                       \
+        if (!(what)) {                                                         \
+            printf("%s: line %d failed: %s\n", __FILE__, __LINE__, #what);     \
+            exit(1);                                                           \
+        }                                                                      \
+        passed++;                                                              \
+    } while (0)
+
+/* The lists in the call's order: text, ends, kinds, addresses, marks, places, lines. */
+struct lists {
+    size_t len[LISTS];
+    void *at[LISTS];
+};
+
+/* Memory for each list with every byte 0xee; NULL for a list of length 0. */
+static struct lists lend(const size_t len[LISTS]) {
+    struct lists l;
+    for (int i = 0; i < LISTS; i++) {
+        size_t bytes = len[i] * ENTRY[i];
+        l.len[i] = len[i];
+        l.at[i] = bytes > 0 ? malloc(bytes) : NULL;
+        if (bytes > 0) {
+            CHECK(l.at[i] != NULL);
+            memset(l.at[i], 0xee, bytes);
+        }
+    }
+    return l;
+}
+
+/* Frees the lists and tells whether they are as they were lent from these places on. */
+static int unchanged(struct lists *l, const size_t from[LISTS]) {
+    int same = 1;
+    for (int i = 0; i < LISTS; i++) {
+        const uint8_t *bytes = l->at[i];
+        for (size_t at = from[i] * ENTRY[i]; at < l->len[i] * ENTRY[i]; at++) {
+            same = same && bytes[at] == 0xee;
+        }
+        free(l->at[i]);
+    }
+    return same;
+}
+
+static uint8_t *copied(const uint8_t *bytes, size_t len) {
+    uint8_t *copy = malloc(len > 0 ? len : 1);
+    CHECK(copy != NULL);
+    memcpy(copy, bytes, len);
+    return copy;
+}
+
+static uint8_t list(const uint8_t *rec, size_t len, size_t from, size_t to, const struct lists *l, uint64_t *sizes, size_t n) {
+    return cakirotu_list(rec, len, from, to, l->at[0], l->len[0], l->at[1], l->len[1], l->at[2], l->len[2], l->at[3], l->len[3], l->at[4],
+                         l->len[4], l->at[5], l->len[5], l->at[6], l->len[6], sizes, n);
+}
+
+static const size_t NONE[LISTS];
+
+/* The lengths that a listing of these sizes needs. */
+static void exact(const uint64_t sizes[CAKIROTU_SIZES], size_t len[LISTS]) {
+    static const int which[LISTS] = {CAKIROTU_TEXT_BYTES, CAKIROTU_TOKENS, CAKIROTU_TOKENS, CAKIROTU_LINES,
+                                     CAKIROTU_LINES,      CAKIROTU_LINES,  CAKIROTU_LINES};
+    for (int i = 0; i < LISTS; i++) {
+        len[i] = (size_t)sizes[which[i]];
+    }
+}
+
+#endif

@@ -1,0 +1,4 @@
+pub mod Long
+pub mod Suffice
+pub mod Prints
+pub mod Lent

@@ -1,0 +1,2 @@
+// Standard input into a list: what every program does before its answer.
+pub mod input;
