@@ -1,8 +1,8 @@
-/* Cakirotu's library for C: lists blocks of a record as pseudocode, and writes and reads listings as rows for a spreadsheet.
- * docs/BINDINGS.md says how to build and link.
+/* Cakirotu's library for C: lists blocks of a record as pseudocode, writes and reads listings as rows for a spreadsheet, and gives a string back
+ * from its literal in a listing. docs/BINDINGS.md says how to build and link.
  *
  * No function allocates, keeps a pointer, or holds state between calls; threads may call at once. Any bytes may be lent as
- * a record or as rows, and any lists as a listing: every call ends with what is asked for or with a number. Nothing is read or stored
+ * a record, as rows or as a literal, and any lists as a listing: every call ends with what is asked for or with a number. Nothing is read or stored
  * past the lengths given.
  *
  * Give a thread that calls them 256 KiB of stack or more.
@@ -39,7 +39,9 @@ enum cakirotu_answer {
     CAKIROTU_NO_LINE_ROOM = 14,    /* are addresses, marks, places and lines? */
     CAKIROTU_NO_BRANCHES = 15,     /* asked between 8 and 9: has each block that ends in a conditional near branch one True edge,
                                       to the branch's target, and any other block none? */
-    CAKIROTU_NO_ROWS = 16          /* of rows alone, asked before 12: are the bytes rows, do the lists hold lines that rows can carry? */
+    CAKIROTU_NO_ROWS = 16,         /* of rows alone, asked before 12: are the bytes rows, do the lists hold lines that rows can carry? */
+    CAKIROTU_NO_LITERAL = 17       /* of a literal alone, asked before 12: is the token of kind 5, with a text that a listing has for a
+                                      string? */
 };
 
 /* Where the three sizes stand. */
@@ -51,8 +53,8 @@ enum cakirotu_kind {
     CAKIROTU_REGISTER,
     CAKIROTU_NUMBER,
     CAKIROTU_KEYWORD,
-    CAKIROTU_SYMBOL,
-    CAKIROTU_ADDRESS, /* a name, a string, or an address with its prefix */
+    CAKIROTU_SYMBOL,  /* a name, a label, or an address with its prefix */
+    CAKIROTU_ADDRESS, /* a string's literal */
     CAKIROTU_PUNCT,
     CAKIROTU_PREFIX
 };
@@ -117,6 +119,26 @@ uint8_t cakirotu_write_rows(const uint8_t *text, size_t text_len, const uint32_t
 uint8_t cakirotu_read_rows(const uint8_t *file, size_t file_len, uint8_t *text, size_t text_len, uint32_t *ends, size_t ends_len,
                            uint8_t *kinds, size_t kinds_len, uint64_t *addresses, size_t addresses_len, uint16_t *marks, size_t marks_len,
                            uint16_t *places, size_t places_len, uint32_t *lines, size_t lines_len, uint64_t *sizes, size_t sizes_len);
+
+/* Where the three values of a string stand. */
+enum cakirotu_value_place { CAKIROTU_STRING_BYTES, CAKIROTU_WIDE, CAKIROTU_CUT, CAKIROTU_VALUES };
+
+/* The most bytes that a literal gives. */
+#define CAKIROTU_LITERAL_BYTES 80
+
+/* Gives a string back from its literal, the text of a token of kind CAKIROTU_ADDRESS: just those texts are accepted that a listing has for a
+ * string. One of at most 80 characters comes back as it was; the literal of a longer one ends in the bytes E2 80 A6 before the last quote,
+ * and its first 80 characters come back.
+ *
+ * With 0 `out` holds the string and its bytes past it are as they were; with a number it is as it was and the values are 0.
+ * Answers 0, CAKIROTU_NO_LITERAL or CAKIROTU_NO_TEXT_ROOM.
+ *
+ * kind, text  the token
+ * out         gets the string, a byte for each character, of a wide string too; CAKIROTU_LITERAL_BYTES of them always suffice
+ * values      gets how many bytes that are, 1 or 0 for a wide string or not, 1 or 0 for one that was cut or not; a list shorter than 3 gets the
+ *             first ones */
+uint8_t cakirotu_read_literal(uint8_t kind, const uint8_t *text, size_t text_len, uint8_t *out, size_t out_len, uint64_t *values,
+                              size_t values_len);
 
 #ifdef __cplusplus
 }

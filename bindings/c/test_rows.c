@@ -18,17 +18,6 @@ enum { TEXT, ENDS, KINDS, ADDRESSES, MARKS, PLACES, LINES };
 #define U32(l, which) ((uint32_t *)(l).at[which])
 #define U64(l, which) ((uint64_t *)(l).at[which])
 
-static uint8_t write_rows(const struct lists *l, const uint64_t *sizes, size_t n, uint8_t *out, size_t out_len, uint64_t *size,
-                          size_t size_len) {
-    return cakirotu_write_rows(l->at[0], l->len[0], l->at[1], l->len[1], l->at[2], l->len[2], l->at[3], l->len[3], l->at[4], l->len[4],
-                               l->at[5], l->len[5], l->at[6], l->len[6], sizes, n, out, out_len, size, size_len);
-}
-
-static uint8_t read_rows(const uint8_t *file, size_t len, const struct lists *l, uint64_t *sizes, size_t n) {
-    return cakirotu_read_rows(file, len, l->at[0], l->len[0], l->at[1], l->len[1], l->at[2], l->len[2], l->at[3], l->len[3], l->at[4],
-                              l->len[4], l->at[5], l->len[5], l->at[6], l->len[6], sizes, n);
-}
-
 static void give_back(struct lists *l) {
     for (int i = 0; i < LISTS; i++) {
         free(l->at[i]);

@@ -1,4 +1,4 @@
-//! The four functions of libabi.a. All unsafe code is here.
+//! The five functions of libabi.a. All unsafe code is here.
 
 use crate::{Blocks, Held, Lists, Refusal, Sizes};
 
@@ -74,9 +74,19 @@ extern "C" {
         sizes: *mut u64,
         sizes_len: usize,
     ) -> u8;
+
+    fn cakirotu_read_literal(
+        kind: u8,
+        text: *const u8,
+        text_len: usize,
+        out: *mut u8,
+        out_len: usize,
+        values: *mut u64,
+        values_len: usize,
+    ) -> u8;
 }
 
-/// What no call leaves: every call writes its sizes.
+/// What no call leaves: every call writes its sizes or values.
 const UNWRITTEN: [u64; 3] = [u64::MAX; 3];
 
 pub fn size(record: &[u8], blocks: Blocks) -> Result<Sizes, Refusal> {
@@ -176,14 +186,27 @@ pub fn read_rows(file: &[u8], l: &mut Lists<'_>) -> Result<Sizes, Refusal> {
     answer(no, sizes)
 }
 
-/// Panics on an answer that the library does not give: then another one is linked.
+/// How many bytes the string has, whether it was wide, whether it was cut.
+pub fn read_literal(kind: u8, text: &[u8], out: &mut [u8]) -> Result<[usize; 3], Refusal> {
+    let mut values = UNWRITTEN;
+    // The function is total: it reads the text alone and stores nothing past `out` and the values, which as `&mut` are apart.
+    let no = unsafe {
+        cakirotu_read_literal(kind, text.as_ptr(), text.len(), out.as_mut_ptr(), out.len(), values.as_mut_ptr(), values.len())
+    };
+    checked(no, values)
+}
+
 fn answer(no: u8, sizes: [u64; 3]) -> Result<Sizes, Refusal> {
+    checked(no, sizes).map(|[text, tokens, lines]| Sizes { text, tokens, lines })
+}
+
+/// Panics on an answer that the library does not give: then another one is linked.
+fn checked(no: u8, values: [u64; 3]) -> Result<[usize; 3], Refusal> {
     if no == 0 {
-        let [text, tokens, lines] = sizes.map(|n| n as usize);
-        return Ok(Sizes { text, tokens, lines });
+        return Ok(values.map(|n| n as usize));
     }
     match Refusal::from_number(no) {
-        Some(refusal) if sizes == [0; 3] => Err(refusal),
-        _ => panic!("the library answers {no} with the sizes {sizes:?}"),
+        Some(refusal) if values == [0; 3] => Err(refusal),
+        _ => panic!("the library answers {no} with {values:?}"),
     }
 }

@@ -25,11 +25,14 @@ pub enum Refusal {
     Branches,
     /// Asked of rows alone, before [`Refusal::TextRoom`].
     Rows,
+    /// Asked of a literal alone, before [`Refusal::TextRoom`].
+    Literal,
 }
 
 impl Refusal {
-    /// Every refusal, in the order in which the questions are asked: of a record all but [`Refusal::Rows`], of rows it and those behind it.
-    pub const ALL: [Refusal; 16] = [
+    /// Every refusal, in the order in which the questions are asked: of a record all but [`Refusal::Literal`] and [`Refusal::Rows`], of a literal
+    /// it and [`Refusal::TextRoom`], of rows [`Refusal::Rows`] and those behind it.
+    pub const ALL: [Refusal; 17] = [
         Refusal::Header,
         Refusal::Settings,
         Refusal::Limits,
@@ -42,13 +45,14 @@ impl Refusal {
         Refusal::Atlas,
         Refusal::Spans,
         Refusal::Range,
+        Refusal::Literal,
         Refusal::Rows,
         Refusal::TextRoom,
         Refusal::TokenRoom,
         Refusal::LineRoom,
     ];
 
-    /// 1 to 16.
+    /// 1 to 17.
     pub fn number(self) -> u8 {
         self as u8
     }
@@ -82,6 +86,7 @@ impl Refusal {
                 "Has each block that ends in a conditional near branch one True edge, to the branch's target, and any other block none?"
             }
             Refusal::Rows => "Are the bytes rows, or do the lists hold lines that rows can carry?",
+            Refusal::Literal => "Is the token of kind 5, with a text that a listing has for a string?",
         }
     }
 }

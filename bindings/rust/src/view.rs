@@ -10,8 +10,9 @@ pub enum Kind {
     Register,
     Number,
     Keyword,
+    /// A name, a label, or an address with its prefix.
     Symbol,
-    /// A name, a string, or an address with its prefix.
+    /// A string's literal.
     Address,
     Punct,
     Prefix,

@@ -3,7 +3,7 @@
 
 mod common;
 
-use cakirotu::{Refusal, Sizes};
+use cakirotu::{Kind, Literal, Refusal, Sizes};
 use common::Lent;
 
 /// A stored call.
@@ -119,6 +119,46 @@ fn every_stored_listing_goes_both_ways() {
         listings += 1;
     }
     assert_eq!(listings, 240);
+}
+
+/// The strings of a record's atlas as their literals give them.
+fn strings(record: &[u8]) -> Vec<Literal<Vec<u8>>> {
+    let [blocks, insns, edges, entries, spans] =
+        [4, 6, 8, 10, 12].map(|at| usize::from(u16::from_le_bytes([record[at], record[at + 1]])));
+    let marks = &record[24 + 12 * blocks + 9 * edges + 100 * insns + 8 * entries..];
+    let mut texts = &marks[2 * entries + 16 * spans..];
+    let mut strings = Vec::new();
+    for mark in marks[..2 * entries].chunks(2) {
+        let (text, rest) = texts.split_at(mark[1].into());
+        texts = rest;
+        if mark[0] < 3 {
+            strings.push(Literal { bytes: text[..text.len().min(80)].to_vec(), wide: mark[0] == 2, cut: text.len() > 80 });
+        }
+    }
+    strings
+}
+
+/// The literals of every stored listing, from its rows, are strings of the record's atlas; no other token is a literal.
+#[test]
+fn strings_of_every_stored_listing_come_back() {
+    let mut seen = [0; 4];
+    for (n, case) in cases().iter().enumerate() {
+        let Ok(listing) = cakirotu::list(&case.record, case.range) else { continue };
+        let back = cakirotu::read_rows(&cakirotu::write_rows(listing.view()).unwrap()).unwrap();
+        let strings = strings(&case.record);
+        for token in back.view().lines().flat_map(|line| line.tokens()) {
+            let literal = cakirotu::read_literal(token);
+            match token.kind {
+                Kind::Address => {
+                    let literal = literal.unwrap();
+                    assert!(strings.contains(&literal), "case {n}: {literal:?}");
+                    seen[usize::from(literal.wide) + 2 * usize::from(literal.cut)] += 1;
+                }
+                _ => assert_eq!(literal, Err(Refusal::Literal), "case {n}"),
+            }
+        }
+    }
+    assert!(seen.iter().all(|count| *count > 0), "plain, wide, cut, both: {seen:?}");
 }
 
 /// Lines and tokens, put together again, are the whole text.

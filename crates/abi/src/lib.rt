@@ -2,3 +2,4 @@
 pub mod export;
 pub mod file;
 mod sizes;
+pub mod string;

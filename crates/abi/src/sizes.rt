@@ -1,4 +1,4 @@
-// The sizes of an answer in a list, as C has them.
+// The answers beside a number, three numbers in a list, as C has them.
 use lists::stores::store_u64;
 use rows::answer::Answer;
 ghost use mathlib.Core.List.{[], _∷_};
@@ -7,13 +7,13 @@ ghost use Rattle.lists.specs.Put.{put};
 ghost use Rattle.rows.specs.Lists.{numberOf};
 ghost use Rattle.abi.specs.Exported.{sizeList};
 
-// The three sizes from the start of the list on.
-fn put_sizes(sizes: &mut [u64], text: u64, tokens: u64, lines: u64)
-    ensures { λ _. ⌜ now (sizes .exit) ≡ put 0 (text ∷ tokens ∷ lines ∷ []) (now (sizes .entry)) ⌝ }
+// Three numbers from the start of the list on.
+pub fn put_three(list: &mut [u64], a: u64, b: u64, c: u64)
+    ensures { λ _. ⌜ now (list .exit) ≡ put 0 (a ∷ b ∷ c ∷ []) (now (list .entry)) ⌝ }
 {
-    store_u64(sizes, 0, text);
-    store_u64(sizes, 1, tokens);
-    store_u64(sizes, 2, lines);
+    store_u64(list, 0, a);
+    store_u64(list, 1, b);
+    store_u64(list, 2, c);
 }
 
 // The sizes of an answer, zeros with a number; answers the number.
@@ -23,11 +23,11 @@ pub fn put_answer(sizes: &mut [u64], answer: Answer) -> u8
 {
     match answer {
         Answer::Listed(z) => {
-            put_sizes(sizes, z.text as u64, z.tokens as u64, z.lines as u64);
+            put_three(sizes, z.text as u64, z.tokens as u64, z.lines as u64);
             0
         }
         Answer::No(n) => {
-            put_sizes(sizes, 0, 0, 0);
+            put_three(sizes, 0, 0, 0);
             n
         }
     }

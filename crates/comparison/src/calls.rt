@@ -3,9 +3,11 @@ use abi::export::cakirotu_list as list;
 use abi::export::cakirotu_size as size;
 use abi::file::cakirotu_read_rows as read_rows;
 use abi::file::cakirotu_write_rows as write_rows;
+use abi::string::cakirotu_read_literal as read_literal;
 ghost use Rattle.rows.specs.Lists.{listsOf};
 ghost use Rattle.abi.specs.Exported.{Exported, Sized};
 ghost use Rattle.abi.specs.Rows.{RowsWritten, RowsRead};
+ghost use Rattle.abi.specs.Strings.{LiteralRead};
 
 #[no_mangle]
 pub extern "C" fn cakirotu_list(
@@ -107,4 +109,16 @@ pub extern "C" fn cakirotu_read_rows(
         lines,
         sizes,
     )
+}
+
+#[no_mangle]
+pub extern "C" fn cakirotu_read_literal(
+    kind: u8,
+    text: &[u8],
+    out: &mut [u8],
+    values: &mut [u64],
+) -> u8
+    ensures { λ r. ⌜ LiteralRead kind (now (text .entry)) (now (out .entry)) (now (out .exit)) (now (values .entry)) (now (values .exit)) r ⌝ }
+{
+    read_literal(kind, text, out, values)
 }

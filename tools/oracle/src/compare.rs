@@ -1,5 +1,7 @@
 //! The comparisons. Each ends with the line `WHAT: N compared, M differ`.
 
+mod answers;
+pub mod literals;
 pub mod rows;
 
 use std::collections::BTreeSet;
@@ -27,6 +29,7 @@ pub const COMPARISONS: &[(&str, Comparison)] = &[
     ("lines", lines),
     ("listing", whole),
     ("rows", rows::rows),
+    ("literals", literals::literals),
     ("sanity", sanity),
 ];
 

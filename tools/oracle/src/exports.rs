@@ -1,4 +1,5 @@
-//! What the port's library exports for the comparison alone. It is the archive that the crate `cakirotu` links.
+//! What the port's library exports for the comparison alone, and one function of the product's that the comparison calls as C does. It is the
+//! archive that the crate `cakirotu` links.
 
 use crate::pieces::Tokens;
 
@@ -18,6 +19,16 @@ extern "C" {
         kinds: *mut u8,
         kinds_len: usize,
     ) -> u64;
+
+    fn cakirotu_read_literal(
+        kind: u8,
+        text: *const u8,
+        text_len: usize,
+        out: *mut u8,
+        out_len: usize,
+        values: *mut u64,
+        values_len: usize,
+    ) -> u8;
 }
 
 /// The first question of a record and a range that gets a no, or 0.
@@ -50,4 +61,12 @@ pub fn piece(bytes: &[u8], first: u16, instruction: u16, what: u8) -> Tokens {
     tokens.ends.truncate(sizes as u32 as usize);
     tokens.kinds.truncate(sizes as u32 as usize);
     tokens
+}
+
+/// The string of a literal token. The binding always lends three values and knows eight kinds; here there may be any number of either.
+pub fn read_literal(kind: u8, text: &[u8], out: &mut [u8], values: &mut [u64]) -> u8 {
+    // The function is total: it reads the text alone and stores nothing past the two lists.
+    unsafe {
+        cakirotu_read_literal(kind, text.as_ptr(), text.len(), out.as_mut_ptr(), out.len(), values.as_mut_ptr(), values.len())
+    }
 }

@@ -1,5 +1,5 @@
 //! What the port is compared with: the unchanged Rust emitter over a record, the amended one where document 02 departs from it, and the
-//! questions and rows of documents 01 and 02 written a second time.
+//! questions, rows and literals of documents 01 and 02 written a second time.
 
 pub mod compare;
 pub mod damage;
@@ -9,6 +9,7 @@ pub mod gen;
 pub mod lines;
 pub mod listing;
 pub mod lists;
+pub mod literals;
 #[cfg(mutants)]
 pub mod mutants;
 pub mod pieces;

@@ -1,6 +1,7 @@
 //! The port's functions, if its library is linked: the product's as its Rust binding has them, and those of `exports.rs`.
 
 use crate::lists::{Left, Lists};
+use crate::literals::Reader;
 use crate::pieces::Tokens;
 use crate::rows::Written;
 
@@ -11,12 +12,20 @@ pub struct Port {
     /// Lists, their sizes, and a list for the rows.
     pub write_rows: fn(&Lists, [usize; 3], Vec<u8>) -> Written,
     pub read_rows: fn(&[u8], Lists) -> Left,
+    pub read_literal: Reader,
 }
 
 #[cfg(feature = "comparison")]
 pub fn linked() -> Result<Port, String> {
     use crate::exports;
-    Ok(Port { first_no: exports::first_no, piece_tokens: exports::piece, list, write_rows, read_rows })
+    Ok(Port {
+        first_no: exports::first_no,
+        piece_tokens: exports::piece,
+        list,
+        write_rows,
+        read_rows,
+        read_literal: exports::read_literal,
+    })
 }
 
 #[cfg(not(feature = "comparison"))]

@@ -1,6 +1,7 @@
 //! Rows (#102): the port's writing and reading against the second implementation, on listings of the port's own and on any tokens, on
 //! damaged files and on lists that hold no rows.
 
+use super::answers::{print_kinds, Answers};
 use super::Tally;
 use crate::damage::valid_call;
 use crate::lists::{self, Lists};
@@ -154,30 +155,6 @@ fn some_short(rng: &mut Rng, sizes: [usize; 3]) -> Lists {
     Lists::lent(lists::fitting(sizes).map(|n| if rng.percent(70) { n } else { rng.range(0, n) }))
 }
 
-/// How often each answer came.
-#[derive(Clone, Copy, Default)]
-struct Answers([usize; 17]);
-
-impl Answers {
-    fn add(&mut self, no: u8) {
-        self.0[usize::from(no)] += 1;
-    }
-
-    fn all(&self) -> usize {
-        self.0.iter().sum()
-    }
-
-    /// Accepted and each number in turn; one that never came is an error.
-    fn print(&self, what: &str, numbers: &[usize]) -> Result<(), String> {
-        let counts: Vec<String> = numbers.iter().map(|no| format!("{} no {no}", self.0[*no])).collect();
-        println!("  {what}: {} calls, {} accepted, {}", self.all(), self.0[0], counts.join(", "));
-        match numbers.iter().chain([&0]).find(|no| self.0[**no] == 0) {
-            Some(no) => Err(format!("{what}: the answer {no} never came")),
-            None => Ok(()),
-        }
-    }
-}
-
 /// What came, so that a comparison of refusals alone would show.
 struct Seen {
     records: usize,
@@ -198,16 +175,9 @@ impl Default for Seen {
 impl Seen {
     fn print(&self) -> Result<(), String> {
         println!("  {} listings of the port's own", self.records);
-        print_kinds("damaged files", &self.files, damage::name);
-        print_kinds("changed lists", &self.lists, wrong_lists::name);
+        print_kinds("damaged files", &self.files, damage::name, 16);
+        print_kinds("changed lists", &self.lists, wrong_lists::name, 16);
         self.written.print("writing", &[16, 12])?;
         self.read.print("reading", &[16, 12, 13, 14])
-    }
-}
-
-fn print_kinds(what: &str, kinds: &[Answers], name: fn(usize) -> &'static str) {
-    println!("  {what}, how many of each kind and how many of them got 16:");
-    for (kind, answers) in kinds.iter().enumerate() {
-        println!("    {:34} {:7} {:7}", name(kind), answers.all(), answers.0[16]);
     }
 }

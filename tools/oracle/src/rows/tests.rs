@@ -211,6 +211,7 @@ fn second() -> Port {
         },
         write_rows: write,
         read_rows: read,
+        read_literal: crate::literals::read,
     }
 }
 

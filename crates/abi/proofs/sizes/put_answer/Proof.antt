@@ -19,35 +19,35 @@ answer-put g r z z′ h q = (ap numberOf (sym h), q ∙ ap (λ (g : Answer). put
 enum-known-answer : tie.Need-enum-known-answer
 enum-known-answer c = search needs
 
-put-sizes-requires : tie.Need-put-sizes-requires
-put-sizes-requires c κs = search needs
+put-three-requires : tie.Need-put-three-requires
+put-three-requires c κs = search needs
 
 enum-known-answer-2 : tie.Need-enum-known-answer-2
 enum-known-answer-2 c = search needs
 
-put-sizes-requires-2 : tie.Need-put-sizes-requires-2
-put-sizes-requires-2 c κs = search needs
+put-three-requires-2 : tie.Need-put-three-requires-2
+put-three-requires-2 c κs = search needs
 
 same-length : tie.Need-same-length
 same-length c = search needs
 
 returns : tie.Need-returns
-returns c = answer-put _ (Listed _) _ _ ((c .before .before .before .before .before .answer) .given .1) ((c .before .before .put-sizes) .ensures)
+returns c = answer-put _ (Listed _) _ _ ((c .before .before .before .before .before .answer) .given .1) ((c .before .before .put-three) .ensures)
 
 same-length-2 : tie.Need-same-length-2
 same-length-2 c = search needs
 
 returns-2 : tie.Need-returns-2
-returns-2 c = answer-put _ (No _) _ _ ((c .before .before .before .before .before .answer2) .given .1) ((c .before .before .put-sizes2) .ensures)
+returns-2 c = answer-put _ (No _) _ _ ((c .before .before .before .before .before .answer2) .given .1) ((c .before .before .put-three2) .ensures)
 
 pub put-answer-spec : {M : Type 1} → statement M
 put-answer-spec =
     tie.close
     (tie.spec
     enum-known-answer
-    put-sizes-requires
+    put-three-requires
     enum-known-answer-2
-    put-sizes-requires-2
+    put-three-requires-2
     same-length
     returns
     same-length-2
