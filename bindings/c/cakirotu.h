@@ -1,5 +1,5 @@
-/* Cakirotu's library for C: lists blocks of a record as pseudocode, writes and reads listings as rows for a spreadsheet, and gives a string back
- * from its literal in a listing. docs/BINDINGS.md says how to build and link.
+/* Cakirotu's library for C: lists blocks of a record as pseudocode, writes and reads listings as rows for a spreadsheet, gives a string back
+ * from its literal in a listing, and makes a listing's command table for a keyer. docs/BINDINGS.md says how to build and link.
  *
  * No function allocates, keeps a pointer, or holds state between calls; threads may call at once. Any bytes may be lent as
  * a record, as rows or as a literal, and any lists as a listing: every call ends with what is asked for or with a number. Nothing is read or stored
@@ -34,14 +34,15 @@ enum cakirotu_answer {
     CAKIROTU_NO_ATLAS = 9,         /* do atlas addresses rise, do lengths total the header's, are texts as they may be? */
     CAKIROTU_NO_SPANS = 10,        /* is each span's first address at most its last? */
     CAKIROTU_NO_RANGE = 11,        /* from <= to <= the record's blocks? */
-    CAKIROTU_NO_TEXT_ROOM = 12,    /* is the text list long enough? */
-    CAKIROTU_NO_TOKEN_ROOM = 13,   /* are ends and kinds? */
-    CAKIROTU_NO_LINE_ROOM = 14,    /* are addresses, marks, places and lines? */
+    CAKIROTU_NO_TEXT_ROOM = 12,    /* is the list for text, or for bytes, long enough? */
+    CAKIROTU_NO_TOKEN_ROOM = 13,   /* are ends and kinds, or a table's rows? */
+    CAKIROTU_NO_LINE_ROOM = 14,    /* are addresses, marks, places and lines, or a table's addresses? */
     CAKIROTU_NO_BRANCHES = 15,     /* asked between 8 and 9: has each block that ends in a conditional near branch one True edge,
                                       to the branch's target, and any other block none? */
     CAKIROTU_NO_ROWS = 16,         /* of rows alone, asked before 12: are the bytes rows, do the lists hold lines that rows can carry? */
-    CAKIROTU_NO_LITERAL = 17       /* of a literal alone, asked before 12: is the token of kind 5, with a text that a listing has for a
+    CAKIROTU_NO_LITERAL = 17,      /* of a literal alone, asked before 12: is the token of kind 5, with a text that a listing has for a
                                       string? */
+    CAKIROTU_NO_NAMES = 19         /* of a command table alone, asked before 16: is neither name empty? */
 };
 
 /* Where the three sizes stand. */
@@ -139,6 +140,36 @@ enum cakirotu_value_place { CAKIROTU_STRING_BYTES, CAKIROTU_WIDE, CAKIROTU_CUT, 
  *             first ones */
 uint8_t cakirotu_read_literal(uint8_t kind, const uint8_t *text, size_t text_len, uint8_t *out, size_t out_len, uint64_t *values,
                               size_t values_len);
+
+/* Where the two counts of a command table stand. */
+enum cakirotu_count_place { CAKIROTU_TABLE_BYTES, CAKIROTU_TABLE_ROWS, CAKIROTU_COUNTS };
+
+/* Of a row: the place behind its bytes, which begin where those of the row before end; and 1 if none were found, else 0. */
+#define CAKIROTU_ROW_END(row) ((uint64_t)(row) / 2)
+#define CAKIROTU_ROW_NONE(row) ((uint64_t)(row) % 2)
+
+/* Makes a listing's command table: a row for each call line by a name, in the listing's order, with the call's address and the bytes that a
+ * register was set to. These are the string of a literal: of the last line of the same block before the call, and after the block's previous
+ * call line, that begins with that register, if it goes on with ` = ` and a literal that is not cut. A call line has an address and begins with a
+ * register, ` = `, one token and punctuation that begins with `(`. docs/KEYER.md says what a table does not tell.
+ *
+ * With 0 the three lists hold the table and their entries past the counts are as they were; with a number they are as they were and the counts
+ * are 0. Answers 0, CAKIROTU_NO_NAMES, CAKIROTU_NO_ROWS, or CAKIROTU_NO_TEXT_ROOM for bytes, _TOKEN_ROOM for rows, _LINE_ROOM for calls.
+ *
+ * text to lines  a listing's lists, as cakirotu_list fills them; entries past the sizes are not looked at
+ * sizes          text bytes, tokens, lines; those that a list shorter than 3 lacks count as 0
+ * call           the name of the call, as the listing has it
+ * reg            the name of the register, as the listing has it
+ * bytes          gets the rows' bytes, one after another; CAKIROTU_LITERAL_BYTES for each line always suffice
+ * rows           gets for each row twice the place behind its bytes, plus 1 if none were found; one for each line always suffices
+ * calls          gets for each row the call's address; as many as rows
+ * counts         gets how many bytes and rows there are; a list shorter than 2 gets the first one */
+uint8_t cakirotu_command_table(const uint8_t *text, size_t text_len, const uint32_t *ends, size_t ends_len, const uint8_t *kinds,
+                               size_t kinds_len, const uint64_t *addresses, size_t addresses_len, const uint16_t *marks, size_t marks_len,
+                               const uint16_t *places, size_t places_len, const uint32_t *lines, size_t lines_len, const uint64_t *sizes,
+                               size_t sizes_len, const uint8_t *call, size_t call_len, const uint8_t *reg, size_t reg_len, uint8_t *bytes,
+                               size_t bytes_len, uint64_t *rows, size_t rows_len, uint64_t *calls, size_t calls_len, uint64_t *counts,
+                               size_t counts_len);
 
 #ifdef __cplusplus
 }

@@ -32,23 +32,28 @@ struct lists {
     void *at[LISTS];
 };
 
+/* Memory of so many bytes, each 0xee; NULL for none. */
+static void *memory(size_t bytes) {
+    if (bytes == 0) {
+        return NULL;
+    }
+    void *at = malloc(bytes);
+    CHECK(at != NULL);
+    return memset(at, 0xee, bytes);
+}
+
 /* Memory for each list with every byte 0xee; NULL for a list of length 0. */
 static struct lists lend(const size_t len[LISTS]) {
     struct lists l;
     for (int i = 0; i < LISTS; i++) {
-        size_t bytes = len[i] * ENTRY[i];
         l.len[i] = len[i];
-        l.at[i] = bytes > 0 ? malloc(bytes) : NULL;
-        if (bytes > 0) {
-            CHECK(l.at[i] != NULL);
-            memset(l.at[i], 0xee, bytes);
-        }
+        l.at[i] = memory(len[i] * ENTRY[i]);
     }
     return l;
 }
 
-/* Frees the lists and tells whether they are as they were lent from these places on. */
-static int unchanged(struct lists *l, const size_t from[LISTS]) {
+/* Frees the lists and tells whether they are as they were lent from these places on. Inline, as others below, since not every test calls it. */
+static inline int unchanged(struct lists *l, const size_t from[LISTS]) {
     int same = 1;
     for (int i = 0; i < LISTS; i++) {
         const uint8_t *bytes = l->at[i];
@@ -67,12 +72,21 @@ static uint8_t *copied(const uint8_t *bytes, size_t len) {
     return copy;
 }
 
+/* The bytes of a record's file; answers how many there are. */
+#define MOST_RECORD 65536
+static size_t read_record(const char *name, uint8_t rec[MOST_RECORD]) {
+    FILE *file = fopen(name, "rb");
+    CHECK(file != NULL);
+    size_t len = fread(rec, 1, MOST_RECORD, file);
+    fclose(file);
+    return len;
+}
+
 static uint8_t list(const uint8_t *rec, size_t len, size_t from, size_t to, const struct lists *l, uint64_t *sizes, size_t n) {
     return cakirotu_list(rec, len, from, to, l->at[0], l->len[0], l->at[1], l->len[1], l->at[2], l->len[2], l->at[3], l->len[3], l->at[4],
                          l->len[4], l->at[5], l->len[5], l->at[6], l->len[6], sizes, n);
 }
 
-/* Inline, since not every test calls these. */
 static inline uint8_t write_rows(const struct lists *l, const uint64_t *sizes, size_t n, uint8_t *out, size_t out_len, uint64_t *size,
                                  size_t size_len) {
     return cakirotu_write_rows(l->at[0], l->len[0], l->at[1], l->len[1], l->at[2], l->len[2], l->at[3], l->len[3], l->at[4], l->len[4],

@@ -129,11 +129,9 @@ static void test_branches(const uint8_t *rec, size_t len) {
 }
 
 int main(int argc, char **argv) {
-    static uint8_t rec[4096];
-    FILE *file = argc == 2 ? fopen(argv[1], "rb") : NULL;
-    CHECK(file != NULL);
-    size_t len = fread(rec, 1, sizeof rec, file);
-    fclose(file);
+    static uint8_t rec[MOST_RECORD];
+    CHECK(argc == 2);
+    size_t len = read_record(argv[1], rec);
     uint64_t need[CAKIROTU_SIZES];
     CHECK(cakirotu_size(rec, len, 0, BLOCKS, need, CAKIROTU_SIZES) == CAKIROTU_LISTED);
     CHECK(need[CAKIROTU_LINES] == 5);

@@ -280,13 +280,9 @@ static size_t from_rows(const uint8_t *rec, size_t len, uint8_t seen[256]) {
 
 /* The strings of a record's listing. Of the first one there are three: the command plain and wide, and a string that was cut. */
 static size_t test_record(const char *name, int first) {
-    static uint8_t rec[65536];
+    static uint8_t rec[MOST_RECORD];
     uint8_t seen[256] = {0};
-    FILE *file = fopen(name, "rb");
-    CHECK(file != NULL);
-    size_t len = fread(rec, 1, sizeof rec, file);
-    fclose(file);
-    size_t strings = from_rows(rec, len, seen);
+    size_t len = read_record(name, rec), strings = from_rows(rec, len, seen);
     if (first) {
         static const uint64_t plain[CAKIROTU_VALUES] = {sizeof COMMAND, 0, 0}, wide[CAKIROTU_VALUES] = {sizeof COMMAND, 1, 0};
         struct atlas atlas = atlas_of(rec);

@@ -1,48 +1,6 @@
 /* Tests rows as C calls them: test_rows FILE MORE.., where FILE is the record of examples/worked.txt; the listing of each goes both ways.
  * Prints `test_rows: N passed`, or what failed. */
-#include "lent.h"
-
-/* The rows of that record. */
-static const char EXAMPLE[] = "0000000000001002,1,0,K,\"if\",P,\" (\",R,\"eax\",P,\" == \",N,\"0\",P,\") {\"\r\n"
-                              "0000000000001004,2,1,R,\"eax\",P,\" = \",N,\"5\",P,\";\"\r\n"
-                              ",1,0,P,\"}\"\r\n"
-                              "0000000000001010,0,2,S,\"loc_1010\",P,\":\"\r\n"
-                              "0000000000001010,1,2,K,\"return\",P,\";\"\r\n";
-#define ROWS ((const uint8_t *)EXAMPLE)
-#define ROWS_LEN (sizeof EXAMPLE - 1)
-
-/* The lists by their places, and their entries. */
-enum { TEXT, ENDS, KINDS, ADDRESSES, MARKS, PLACES, LINES };
-#define U8(l, which) ((uint8_t *)(l).at[which])
-#define U16(l, which) ((uint16_t *)(l).at[which])
-#define U32(l, which) ((uint32_t *)(l).at[which])
-#define U64(l, which) ((uint64_t *)(l).at[which])
-
-static void give_back(struct lists *l) {
-    for (int i = 0; i < LISTS; i++) {
-        free(l->at[i]);
-    }
-}
-
-/* The example's lists, as reading fills them. */
-static struct lists read_example(uint64_t sizes[CAKIROTU_SIZES]) {
-    static const uint64_t need[CAKIROTU_SIZES] = {40, 15, 5};
-    size_t fit[LISTS];
-    exact(need, fit);
-    struct lists l = lend(fit);
-    CHECK(read_rows(ROWS, ROWS_LEN, &l, sizes, CAKIROTU_SIZES) == CAKIROTU_LISTED);
-    CHECK(memcmp(sizes, need, sizeof need) == 0);
-    return l;
-}
-
-static int all_are(const uint8_t *bytes, size_t from, size_t to, uint8_t byte) {
-    for (size_t at = from; at < to; at++) {
-        if (bytes[at] != byte) {
-            return 0;
-        }
-    }
-    return 1;
-}
+#include "held.h"
 
 /* Writing into a list of this length, with each byte 0xee, gives this answer; the rows with 0, nothing with a number. */
 static void written(const struct lists *l, const uint64_t *sizes, size_t n, size_t out_len, uint8_t answer, const uint8_t *rows,
@@ -97,40 +55,10 @@ static void test_writing(void) {
     give_back(&l);
 }
 
-/* A change of the example's lists or sizes. */
-typedef void change(struct lists *l, uint64_t sizes[CAKIROTU_SIZES]);
-
-static void more_text(struct lists *l, uint64_t *sizes) { (void)l, sizes[CAKIROTU_TEXT_BYTES]++; }
-static void less_text(struct lists *l, uint64_t *sizes) { (void)l, sizes[CAKIROTU_TEXT_BYTES]--; }
-static void more_tokens(struct lists *l, uint64_t *sizes) { (void)l, sizes[CAKIROTU_TOKENS]++; }
-static void less_tokens(struct lists *l, uint64_t *sizes) { (void)l, sizes[CAKIROTU_TOKENS]--; }
-static void more_lines(struct lists *l, uint64_t *sizes) { (void)l, sizes[CAKIROTU_LINES]++; }
-static void less_lines(struct lists *l, uint64_t *sizes) { (void)l, sizes[CAKIROTU_LINES]--; }
-static void most_lines(struct lists *l, uint64_t *sizes) { (void)l, sizes[CAKIROTU_LINES] = UINT64_MAX; }
-static void wrapped_text(struct lists *l, uint64_t *sizes) { (void)l, sizes[CAKIROTU_TEXT_BYTES] += (uint64_t)1 << 32; }
-static void empty_token(struct lists *l, uint64_t *sizes) { (void)sizes, U32(*l, ENDS)[3] = U32(*l, ENDS)[2]; }
-static void end_falls(struct lists *l, uint64_t *sizes) { (void)sizes, U32(*l, ENDS)[3] = U32(*l, ENDS)[2] - 1; }
-static void end_too_far(struct lists *l, uint64_t *sizes) { (void)sizes, U32(*l, ENDS)[0] = UINT32_MAX; }
-static void last_end_short(struct lists *l, uint64_t *sizes) { (void)sizes, U32(*l, ENDS)[14]--; }
-static void empty_line(struct lists *l, uint64_t *sizes) { (void)sizes, U32(*l, LINES)[2] = U32(*l, LINES)[1]; }
-static void empty_first(struct lists *l, uint64_t *sizes) { (void)sizes, U32(*l, LINES)[0] = 0; }
-static void line_too_far(struct lists *l, uint64_t *sizes) { (void)sizes, U32(*l, LINES)[0] = UINT32_MAX; }
-static void last_line_short(struct lists *l, uint64_t *sizes) { (void)sizes, U32(*l, LINES)[4]--; }
-static void kind_8(struct lists *l, uint64_t *sizes) { (void)sizes, U8(*l, KINDS)[0] = 8; }
-static void mark_512(struct lists *l, uint64_t *sizes) { (void)sizes, U16(*l, MARKS)[0] = 512; }
-static void indent_255(struct lists *l, uint64_t *sizes) { (void)sizes, U16(*l, MARKS)[0] = 256 + 255; }
-static void no_mark(struct lists *l, uint64_t *sizes) { (void)sizes, U16(*l, MARKS)[0] = 1; }
-static void address_of_none(struct lists *l, uint64_t *sizes) { (void)sizes, U64(*l, ADDRESSES)[2] = 1; }
-
 /* Lists that hold no rows are refused before room is asked for, and so is each list that is one shorter than the sizes say. */
 static void test_no_rows(void) {
-    static change *const changes[] = {
-        more_text,  less_text,      more_tokens, less_tokens, more_lines,   less_lines,      most_lines, wrapped_text, empty_token, end_falls,
-        end_too_far, last_end_short, empty_line,  empty_first, line_too_far, last_line_short, kind_8,     mark_512,     indent_255,  no_mark,
-        address_of_none,
-    };
     uint64_t sizes[CAKIROTU_SIZES];
-    for (size_t i = 0; i < sizeof changes / sizeof *changes; i++) {
+    for (size_t i = 0; i < CHANGES; i++) {
         struct lists l = read_example(sizes);
         changes[i](&l, sizes);
         written(&l, sizes, CAKIROTU_SIZES, ROWS_LEN, CAKIROTU_NO_ROWS, ROWS, ROWS_LEN);
@@ -270,11 +198,8 @@ static int both_ways(const uint8_t *rec, size_t len) {
 
 /* The record of a file, which the example's rows are written of if it is the first one. */
 static int test_record(const char *name, int first) {
-    static uint8_t rec[65536];
-    FILE *file = fopen(name, "rb");
-    CHECK(file != NULL);
-    size_t len = fread(rec, 1, sizeof rec, file);
-    fclose(file);
+    static uint8_t rec[MOST_RECORD];
+    size_t len = read_record(name, rec);
     if (first) {
         uint64_t sizes[CAKIROTU_SIZES];
         struct lists l = read_example(sizes);

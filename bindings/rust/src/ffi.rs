@@ -1,6 +1,6 @@
-//! The five functions of libabi.a. All unsafe code is here.
+//! The six functions of libabi.a. All unsafe code is here.
 
-use crate::{Blocks, Held, Lists, Refusal, Sizes};
+use crate::{Blocks, Held, Lists, Names, Refusal, Sizes, TableLists};
 
 #[cfg(not(target_arch = "x86_64"))]
 compile_error!("libabi.a is for x86-64 alone");
@@ -84,9 +84,40 @@ extern "C" {
         values: *mut u64,
         values_len: usize,
     ) -> u8;
+
+    fn cakirotu_command_table(
+        text: *const u8,
+        text_len: usize,
+        ends: *const u32,
+        ends_len: usize,
+        kinds: *const u8,
+        kinds_len: usize,
+        addresses: *const u64,
+        addresses_len: usize,
+        marks: *const u16,
+        marks_len: usize,
+        places: *const u16,
+        places_len: usize,
+        lines: *const u32,
+        lines_len: usize,
+        sizes: *const u64,
+        sizes_len: usize,
+        call: *const u8,
+        call_len: usize,
+        register: *const u8,
+        register_len: usize,
+        bytes: *mut u8,
+        bytes_len: usize,
+        rows: *mut u64,
+        rows_len: usize,
+        calls: *mut u64,
+        calls_len: usize,
+        counts: *mut u64,
+        counts_len: usize,
+    ) -> u8;
 }
 
-/// What no call leaves: every call writes its sizes or values.
+/// What no call leaves: every call writes its sizes, values or counts.
 const UNWRITTEN: [u64; 3] = [u64::MAX; 3];
 
 pub fn size(record: &[u8], blocks: Blocks) -> Result<Sizes, Refusal> {
@@ -127,7 +158,7 @@ pub fn list(record: &[u8], blocks: Blocks, l: &mut Lists<'_>) -> Result<Sizes, R
 }
 
 pub fn write_rows(l: &Held<'_>, sizes: Sizes, out: &mut [u8]) -> Result<usize, Refusal> {
-    let sizes = [sizes.text, sizes.tokens, sizes.lines].map(|n| n as u64);
+    let sizes = numbers(sizes);
     let mut size = [u64::MAX];
     // The function is total: it reads the lists and the sizes alone and stores nothing past `out` and the size, which as `&mut` are apart.
     let no = unsafe {
@@ -154,8 +185,7 @@ pub fn write_rows(l: &Held<'_>, sizes: Sizes, out: &mut [u8]) -> Result<usize, R
             size.len(),
         )
     };
-    let [size] = size;
-    answer(no, [size, 0, 0]).map(|sizes| sizes.text)
+    checked(no, size).map(|[size]| size)
 }
 
 pub fn read_rows(file: &[u8], l: &mut Lists<'_>) -> Result<Sizes, Refusal> {
@@ -196,17 +226,62 @@ pub fn read_literal(kind: u8, text: &[u8], out: &mut [u8]) -> Result<[usize; 3],
     checked(no, values)
 }
 
+/// How many bytes and rows the table has.
+pub fn command_table(l: &Held<'_>, sizes: Sizes, names: Names<'_>, table: &mut TableLists<'_>) -> Result<[usize; 2], Refusal> {
+    let sizes = numbers(sizes);
+    let mut counts = [u64::MAX; 2];
+    // The function is total: it reads the lists, the sizes and the names alone and stores nothing past the table's lists and the counts, which as
+    // `&mut` are all apart.
+    let no = unsafe {
+        cakirotu_command_table(
+            l.text.as_ptr(),
+            l.text.len(),
+            l.ends.as_ptr(),
+            l.ends.len(),
+            l.kinds.as_ptr(),
+            l.kinds.len(),
+            l.addresses.as_ptr(),
+            l.addresses.len(),
+            l.marks.as_ptr(),
+            l.marks.len(),
+            l.places.as_ptr(),
+            l.places.len(),
+            l.lines.as_ptr(),
+            l.lines.len(),
+            sizes.as_ptr(),
+            sizes.len(),
+            names.call.as_ptr(),
+            names.call.len(),
+            names.register.as_ptr(),
+            names.register.len(),
+            table.bytes.as_mut_ptr(),
+            table.bytes.len(),
+            table.rows.as_mut_ptr(),
+            table.rows.len(),
+            table.addresses.as_mut_ptr(),
+            table.addresses.len(),
+            counts.as_mut_ptr(),
+            counts.len(),
+        )
+    };
+    checked(no, counts)
+}
+
+fn numbers(sizes: Sizes) -> [u64; 3] {
+    [sizes.text, sizes.tokens, sizes.lines].map(|n| n as u64)
+}
+
 fn answer(no: u8, sizes: [u64; 3]) -> Result<Sizes, Refusal> {
     checked(no, sizes).map(|[text, tokens, lines]| Sizes { text, tokens, lines })
 }
 
 /// Panics on an answer that the library does not give: then another one is linked.
-fn checked(no: u8, values: [u64; 3]) -> Result<[usize; 3], Refusal> {
+fn checked<const N: usize>(no: u8, values: [u64; N]) -> Result<[usize; N], Refusal> {
     if no == 0 {
         return Ok(values.map(|n| n as usize));
     }
     match Refusal::from_number(no) {
-        Some(refusal) if values == [0; 3] => Err(refusal),
+        Some(refusal) if values == [0; N] => Err(refusal),
         _ => panic!("the library answers {no} with {values:?}"),
     }
 }

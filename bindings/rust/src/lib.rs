@@ -1,10 +1,11 @@
-//! Lists blocks of an x86 routine's record as pseudocode, writes and reads listings as rows for a spreadsheet, and gives a string back from its
-//! literal in a listing, by Cakirotu's proved library.
+//! Lists blocks of an x86 routine's record as pseudocode, writes and reads listings as rows for a spreadsheet, gives a string back from its
+//! literal in a listing, and makes a listing's command table for a keyer, by Cakirotu's proved library.
 //!
 //! Any bytes may be lent as a record: every call ends with a listing or a [`Refusal`]. [`list`] allocates a [`Listing`] of just
 //! the size needed; [`size`] and [`list_into`] allocate nothing and work on lists that the caller lends. [`write_rows`] and [`read_rows`]
 //! turn a listing into rows and back, [`write_rows_into`] and [`read_rows_into`] on what the caller lends. [`read_literal`] gives the bytes of a
-//! string, [`read_literal_into`] in a list that the caller lends.
+//! string, [`read_literal_into`] in a list that the caller lends; so do [`command_table`] and [`command_table_into`] with the bytes that a register
+//! is set to before each call by a name.
 //!
 //! ```
 //! let record = std::fs::read("no such file").unwrap_or_default();
@@ -18,6 +19,7 @@ mod ffi;
 mod literal;
 mod refusal;
 mod rows;
+mod table;
 mod view;
 
 use std::ops::Range;
@@ -25,6 +27,7 @@ use std::ops::Range;
 pub use literal::{read_literal, read_literal_into, Literal, LITERAL_BYTES};
 pub use refusal::Refusal;
 pub use rows::{read_rows, read_rows_into, write_rows, write_rows_into, Held};
+pub use table::{command_table, command_table_into, Names, Table, TableLists, TableRows, TableSizes};
 pub use view::{Kind, Line, Lines, Token, Tokens, View};
 
 /// How long a listing is.

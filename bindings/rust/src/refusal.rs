@@ -27,12 +27,15 @@ pub enum Refusal {
     Rows,
     /// Asked of a literal alone, before [`Refusal::TextRoom`].
     Literal,
+    /// Asked of a command table alone, before [`Refusal::Rows`].
+    Names = 19,
 }
 
 impl Refusal {
-    /// Every refusal, in the order in which the questions are asked: of a record all but [`Refusal::Literal`] and [`Refusal::Rows`], of a literal
-    /// it and [`Refusal::TextRoom`], of rows [`Refusal::Rows`] and those behind it.
-    pub const ALL: [Refusal; 17] = [
+    /// Every refusal, in the order in which the questions are asked: of a record all but [`Refusal::Literal`], [`Refusal::Names`] and
+    /// [`Refusal::Rows`], of a literal it and [`Refusal::TextRoom`], of a command table [`Refusal::Names`] and those behind it, of rows
+    /// [`Refusal::Rows`] and those behind it.
+    pub const ALL: [Refusal; 18] = [
         Refusal::Header,
         Refusal::Settings,
         Refusal::Limits,
@@ -46,13 +49,14 @@ impl Refusal {
         Refusal::Spans,
         Refusal::Range,
         Refusal::Literal,
+        Refusal::Names,
         Refusal::Rows,
         Refusal::TextRoom,
         Refusal::TokenRoom,
         Refusal::LineRoom,
     ];
 
-    /// 1 to 17.
+    /// 1 to 17, or 19.
     pub fn number(self) -> u8 {
         self as u8
     }
@@ -79,14 +83,15 @@ impl Refusal {
             }
             Refusal::Spans => "Is each span's first address at most its last?",
             Refusal::Range => "Is the range one of the record's?",
-            Refusal::TextRoom => "Is the text list long enough?",
-            Refusal::TokenRoom => "Are the token lists long enough?",
-            Refusal::LineRoom => "Are the line lists long enough?",
+            Refusal::TextRoom => "Is the list for text or bytes long enough?",
+            Refusal::TokenRoom => "Are the lists for tokens, or for a table's rows, long enough?",
+            Refusal::LineRoom => "Are the lists for lines, or for a table's addresses, long enough?",
             Refusal::Branches => {
                 "Has each block that ends in a conditional near branch one True edge, to the branch's target, and any other block none?"
             }
             Refusal::Rows => "Are the bytes rows, or do the lists hold lines that rows can carry?",
             Refusal::Literal => "Is the token of kind 5, with a text that a listing has for a string?",
+            Refusal::Names => "Is neither the call's nor the register's name empty?",
         }
     }
 }

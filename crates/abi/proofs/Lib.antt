@@ -1,3 +1,4 @@
 pub mod Exports
 pub mod Rows
 pub mod Strings
+pub mod Tables

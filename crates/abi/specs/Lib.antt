@@ -1,3 +1,4 @@
 pub mod Exported
 pub mod Rows
 pub mod Strings
+pub mod Tables

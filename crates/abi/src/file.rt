@@ -14,7 +14,7 @@ ghost use Rattle.csv.specs.Called.{writtenNumber, writtenSize};
 ghost use Rattle.abi.specs.Rows.{sizesIn, RowsWritten, RowsRead};
 
 // The sizes that a list of text bytes, tokens and lines has.
-fn sizes_in(sizes: &[u64]) -> Sizes
+pub fn sizes_in(sizes: &[u64]) -> Sizes
     ensures { λ r. ⌜ r ≡ sizesIn (now (sizes .entry)) ⌝ }
 {
     Sizes {

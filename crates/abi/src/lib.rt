@@ -3,3 +3,4 @@ pub mod export;
 pub mod file;
 mod sizes;
 pub mod string;
+pub mod table;

@@ -4,10 +4,13 @@ use abi::export::cakirotu_size as size;
 use abi::file::cakirotu_read_rows as read_rows;
 use abi::file::cakirotu_write_rows as write_rows;
 use abi::string::cakirotu_read_literal as read_literal;
+use abi::table::cakirotu_command_table as command_table;
 ghost use Rattle.rows.specs.Lists.{listsOf};
 ghost use Rattle.abi.specs.Exported.{Exported, Sized};
 ghost use Rattle.abi.specs.Rows.{RowsWritten, RowsRead};
 ghost use Rattle.abi.specs.Strings.{LiteralRead};
+ghost use Rattle.abi.specs.Tables.{TableMade};
+ghost use Rattle.commands.specs.Table.{tableLists};
 
 #[no_mangle]
 pub extern "C" fn cakirotu_list(
@@ -121,4 +124,45 @@ pub extern "C" fn cakirotu_read_literal(
     ensures { λ r. ⌜ LiteralRead kind (now (text .entry)) (now (out .entry)) (now (out .exit)) (now (values .entry)) (now (values .exit)) r ⌝ }
 {
     read_literal(kind, text, out, values)
+}
+
+#[no_mangle]
+pub extern "C" fn cakirotu_command_table(
+    text: &[u8],
+    ends: &[u32],
+    kinds: &[u8],
+    addresses: &[u64],
+    marks: &[u16],
+    places: &[u16],
+    lines: &[u32],
+    sizes: &[u64],
+    call: &[u8],
+    register: &[u8],
+    bytes: &mut [u8],
+    rows: &mut [u64],
+    calls: &mut [u64],
+    counts: &mut [u64],
+) -> u8
+    ensures { λ r. ⌜ TableMade
+        (listsOf (now (text .entry)) (now (ends .entry)) (now (kinds .entry)) (now (addresses .entry)) (now (marks .entry)) (now (places .entry)) (now (lines .entry)))
+        (now (sizes .entry)) (now (call .entry)) (now (register .entry))
+        (tableLists (now (bytes .entry)) (now (rows .entry)) (now (calls .entry))) (tableLists (now (bytes .exit)) (now (rows .exit)) (now (calls .exit)))
+        (now (counts .entry)) (now (counts .exit)) r ⌝ }
+{
+    command_table(
+        text,
+        ends,
+        kinds,
+        addresses,
+        marks,
+        places,
+        lines,
+        sizes,
+        call,
+        register,
+        bytes,
+        rows,
+        calls,
+        counts,
+    )
 }

@@ -10,6 +10,7 @@ pub mod FileSize
 pub mod FileBound
 pub mod Fit
 pub mod Holding
+pub mod Room
 pub mod Good
 pub mod Calls
 pub mod ReadDigits

@@ -26,7 +26,7 @@ pub enum Written {
 }
 
 // The text from x up to y.
-fn text_between(text: &[u8], x: usize, y: usize) -> &[u8]
+pub fn text_between(text: &[u8], x: usize, y: usize) -> &[u8]
     ensures { λ r. ⌜ now r ≡ between x y (now (text .entry)) ⌝ }
 {
     if x < y {

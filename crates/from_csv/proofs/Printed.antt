@@ -17,10 +17,11 @@ use Rattle.rows.proofs.Listed.{refused-some, text-taken, ends-taken, addresses-
 use Rattle.csv.specs.Called.{Reads}
 use Rattle.csv.specs.Format.{rowsText}
 use Rattle.csv.proofs.Fit.{writable-good}
+use Rattle.csv.proofs.Room.{marks-length, lines-length}
 use Rattle.page.specs.Page.{refusal, pageOf}
 use Rattle.from_csv.specs.Output.{IsFile, pagePart, pageParts, refusedPart, Prints}
 use Rattle.from_csv.proofs.Parts.{whole-page}
-use Rattle.from_csv.proofs.Short.{Roomy, marks-length, lines-length, few-lines, short-text, room, part-short}
+use Rattle.from_csv.proofs.Short.{Roomy, few-lines, short-text, room, part-short}
 
 module _ (s : List ℕ) where
   file-short : (rs : List Row) → IsFile s rs → length (rowsText rs) ≤ 262144

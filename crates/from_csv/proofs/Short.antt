@@ -7,20 +7,17 @@ use Prim.Native.Nat.{ℕ, zero, suc, _+_, _-_, _*_, _≤_, _<_}
 use native.Mathlib.Decide.{decLe, ℕ-discrete}
 use native.Mathlib.Omega.{arith}
 use lib.Dec.{eqb}
-use lib.ListN.{length, getD, length-append, length-map}
+use lib.ListN.{length, getD, length-append}
 use borrow.Author.Tests.{eq-eqb, ne-eqb}
 use Rattle.lists.specs.Choice.{pick}
-use Rattle.tokens.specs.Listing.{textOf}
 use Rattle.tokens.specs.Lines.{endAt}
-use Rattle.tokens.proofs.ListingLaws.{ends-length}
 use Rattle.rows.specs.Lists.{Lists, sizesOf, roomsOf, roomNo}
-use Rattle.rows.specs.Rows.{Row, allTokens, rowLists}
-use Rattle.rows.proofs.Back.{counts-length}
+use Rattle.rows.specs.Rows.{Row, rowLists}
 use Rattle.rows.proofs.Held.{token-inside, row-inside, text-rise}
-use Rattle.rows.proofs.Listed.{suffice}
 use Rattle.csv.specs.Format.{rowsText, goodRows}
 use Rattle.csv.proofs.Fit.{addresses-fit, rows-held}
 use Rattle.csv.proofs.Holding.{holding}
+use Rattle.csv.proofs.Room.{addresses-length, text-length, enough}
 use Rattle.page.specs.Page.{countLine, tokensEnd, linesEnd, linesText}
 use Rattle.page.proofs.Lengths.{count-long, lines-short}
 use Rattle.from_csv.specs.Output.{partCount, pagePart}
@@ -41,28 +38,7 @@ lines-end : (ends lines : List ℕ) (i : ℕ) → linesEnd ends lines i ≡ endA
 lines-end ends lines zero = refl
 lines-end ends lines (suc i) = tokens-end ends (getD lines i 0)
 
--- ---- the lists of rows
-module _ (rs : List Row) where
-  pub addresses-length : length (rowLists rs .addresses) ≡ length rs
-  unfolding rowLists
-  addresses-length = length-map rs (λ (r : Row). r .address)
-
-  pub marks-length : length (rowLists rs .marks) ≡ length (rowLists rs .addresses)
-  unfolding rowLists
-  marks-length = length-map rs _ ∙ sym (length-map rs _)
-
-  pub lines-length : length (rowLists rs .lines) ≡ length (rowLists rs .addresses)
-  unfolding rowLists
-  lines-length = counts-length 0 rs ∙ sym (length-map rs (λ (r : Row). r .address))
-
-  text-length : length (rowLists rs .text) ≡ length (textOf (allTokens rs))
-  unfolding rowLists
-  text-length = refl
-
-  tokens-length : length (rowLists rs .ends) ≡ length (allTokens rs)
-  unfolding rowLists
-  tokens-length = ends-length 0 (allTokens rs)
-
+-- ---- rows
 module _ (rs : List Row) (good : goodRows rs ≡ true) (small : length (rowsText rs) ≤ 262144) where
   pub few-lines : length (rowLists rs .addresses) ≤ 21845
   few-lines = omega (arith, small, addresses-length rs, holding rs good .rows)
@@ -70,14 +46,11 @@ module _ (rs : List Row) (good : goodRows rs ≡ true) (small : length (rowsText
   pub short-text : length (rowLists rs .text) ≤ 262144
   short-text = omega (arith, small, text-length rs, holding rs good .text)
 
-  few-tokens : length (rowLists rs .ends) ≤ 43690
-  few-tokens = omega (arith, small, tokens-length rs, holding rs good .tokens)
-
   -- questions 12 to 14 get a yes
   pub room : (b : Lists) → Roomy b → roomNo (sizesOf (rowLists rs)) (roomsOf b) ≡ 0
   room b r =
-      suffice (sizesOf (rowLists rs)) (roomsOf b) (omega (arith, short-text, r .0)) (omega (arith, few-tokens, r .1)) (omega (arith, few-tokens, r .2))
-      (omega (arith, few-lines, r .3)) (omega (arith, few-lines, r .4)) (omega (arith, few-lines, r .5)) (omega (arith, few-lines, r .6))
+      enough rs good 262144 small b
+      (r .0, omega (arith, r .1), omega (arith, r .2), omega (arith, r .3), omega (arith, r .4), omega (arith, r .5), omega (arith, r .6))
 
   module _ (p : ℕ) where
     abbrev new : Lists

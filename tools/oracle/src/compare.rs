@@ -3,6 +3,7 @@
 mod answers;
 pub mod literals;
 pub mod rows;
+pub mod tables;
 
 use std::collections::BTreeSet;
 use std::path::PathBuf;
@@ -30,6 +31,7 @@ pub const COMPARISONS: &[(&str, Comparison)] = &[
     ("listing", whole),
     ("rows", rows::rows),
     ("literals", literals::literals),
+    ("tables", tables::tables),
     ("sanity", sanity),
 ];
 

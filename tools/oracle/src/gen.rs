@@ -4,12 +4,15 @@ mod atlas;
 mod flow;
 mod insns;
 mod real;
+mod senders;
 
 use crate::record::{edge, kind, mnemonic as m, name, register as r, Block, Edge, Entry, Insn, Operand, Record};
 use crate::rng::Rng;
 
 use flow::{agree, block_starts, blocks, branch, jump_in_loops, set_addresses, want_labels};
 use insns::{any_insn, any_register, indirect, one};
+
+pub use senders::sender;
 
 pub const LIMIT_B: usize = 200;
 pub const LIMIT_I: usize = 500;

@@ -4,6 +4,7 @@ use std::io::{Read, Write};
 use std::process::ExitCode;
 
 use oracle::rows::{self, programs};
+use oracle::tables;
 use oracle::{compare, listing, questions, record, replay};
 
 const USAGE: &str = "usage: oracle list FILE [FROM TO]     the Rust's listing of a record (- for standard input)
@@ -11,6 +12,8 @@ const USAGE: &str = "usage: oracle list FILE [FROM TO]     the Rust's listing of
        oracle from-csv FILE          the listing of rows, as the program from_csv prints it
        oracle rows-file SEED         a generated file of rows, to standard output
        oracle rows-fields SEED       its fields, in hexadecimal
+       oracle keyer FILE             the command table of names and rows, as the program keyer prints it
+       oracle keyer-input SEED       a generated input of that program, to standard output
        oracle example                the record of document 01's example, to standard output
        oracle questions SEED COUNT   compare the port's questions of a record and a range
        oracle pieces SEED COUNT      compare the port's operands, memory operands and conditions with the Rust's
@@ -18,10 +21,11 @@ const USAGE: &str = "usage: oracle list FILE [FROM TO]     the Rust's listing of
        oracle listing SEED COUNT     compare the port's listings with the Rust's
        oracle rows SEED COUNT        compare the port's rows, written and read, with the second implementation's
        oracle literals SEED COUNT    compare the strings that the port reads out of literals with the second implementation's
+       oracle tables SEED COUNT      compare the port's command tables with the second implementation's
        oracle sanity SEED COUNT      generated records against the questions, the Rust and demand 3
        oracle bench [SET rust|port]  the port's speed against the Rust's; one listing each of a set's records
-       oracle bench-rows FOLDER      the port's speed with rows, and the files into a folder
-       oracle bench-rows SET WAY     one call for each listing of a set, to write or to read
+       oracle bench-rows FOLDER      the port's speed with rows and tables, and the files into a folder
+       oracle bench-rows SET WAY     one call for each listing of a set, to write, to read or to make a table
        oracle record SEED            a generated record, to standard output
        oracle replay COUNT SEED      calls with their answers for the replay program, to standard output";
 
@@ -36,6 +40,8 @@ fn main() -> ExitCode {
         ["from-csv", file] => read(file).and_then(|bytes| write(&programs::from_csv(&bytes))),
         ["rows-file", seed] => number(seed).and_then(|s| write(&rows::file(&rows::any::many(s as u64)))),
         ["rows-fields", seed] => number(seed).and_then(|s| write(programs::fields(&rows::any::many(s as u64)).as_bytes())),
+        ["keyer", file] => read(file).and_then(|bytes| write(&tables::programs::keyer(&bytes))),
+        ["keyer-input", seed] => number(seed).and_then(|s| write(&tables::programs::input(s as u64)?)),
         ["example"] => write(&record::example().to_bytes()),
         ["record", seed] => number(seed).and_then(|s| write(&compare::record(s as u64))),
         ["replay", count, seed] => number(count).and_then(|n| number(seed).and_then(|s| write(&replay::corpus(n, s as u64)?))),

@@ -4,6 +4,9 @@ use crate::lists::{Left, Lists};
 use crate::literals::Reader;
 use crate::pieces::Tokens;
 use crate::rows::Written;
+use crate::tables::Maker;
+#[cfg(feature = "abi")]
+use crate::tables::{Lent, Made, Names};
 
 pub struct Port {
     pub first_no: fn(&[u8], usize, usize) -> u8,
@@ -13,6 +16,7 @@ pub struct Port {
     pub write_rows: fn(&Lists, [usize; 3], Vec<u8>) -> Written,
     pub read_rows: fn(&[u8], Lists) -> Left,
     pub read_literal: Reader,
+    pub command_table: Maker,
 }
 
 #[cfg(feature = "comparison")]
@@ -25,6 +29,7 @@ pub fn linked() -> Result<Port, String> {
         write_rows,
         read_rows,
         read_literal: exports::read_literal,
+        command_table,
     })
 }
 
@@ -62,6 +67,20 @@ pub fn write_rows(lists: &Lists, [text, tokens, lines]: [usize; 3], mut out: Vec
         Err(refusal) => (refusal.number(), 0),
     };
     Written { no, size, out }
+}
+
+#[cfg(feature = "abi")]
+pub fn command_table(lists: &Lists, [text, tokens, lines]: [usize; 3], names: Names<'_>, lent: Lent<'_>) -> Made {
+    let Names { call, register } = names;
+    let Lent { bytes, rows, addresses } = lent;
+    let sizes = cakirotu::Sizes { text, tokens, lines };
+    let made = cakirotu::command_table_into(
+        &held(lists),
+        sizes,
+        cakirotu::Names { call, register },
+        &mut cakirotu::TableLists { bytes, rows, addresses },
+    );
+    made.map(|sizes| [sizes.bytes, sizes.rows]).map_err(|refusal| refusal.number())
 }
 
 /// The lists as the binding reads them.

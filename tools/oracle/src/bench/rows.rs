@@ -1,4 +1,4 @@
-//! The port's speed with rows, both ways, in bytes of the file.
+//! The port's speed with rows, both ways, and with command tables, in bytes of the file of rows.
 
 use std::hint::black_box;
 use std::path::Path;
@@ -19,7 +19,7 @@ struct Set {
 /// How long a call for every listing of a set takes.
 type Calls = fn(&Set) -> Duration;
 
-const WAYS: [(&str, Calls); 2] = [("write", write), ("read", read)];
+const WAYS: [(&str, Calls); 3] = [("write", write), ("read", read), ("table", table)];
 
 /// Prints for each way and set `port WAY SET MB/s`, and keeps the files in a folder for others to read and write.
 pub fn run(folder: &str) -> Result<bool, String> {
@@ -49,7 +49,7 @@ fn least(set: &Set, calls: Calls) -> Duration {
 pub fn once(name: &str, way: &str) -> Result<bool, String> {
     let sets = listings()?;
     let set = sets.iter().find(|s| s.name == name).ok_or("no such set: straight, flow or any")?;
-    let (_, calls) = WAYS.iter().find(|(w, _)| *w == way).ok_or("neither write nor read")?;
+    let (_, calls) = WAYS.iter().find(|(w, _)| *w == way).ok_or("neither write, read nor table")?;
     calls(set);
     println!("bytes {}", bytes(set));
     Ok(true)
@@ -107,6 +107,20 @@ fn read(set: &Set) -> Duration {
     for (_, _, rows) in &set.listings {
         let sizes = cakirotu::read_rows_into(black_box(rows), &mut lent);
         black_box(sizes.expect("rows of the benchmark are read"));
+    }
+    began.elapsed()
+}
+
+/// The table of each listing, for a call and a register that many of its lines have.
+fn table(set: &Set) -> Duration {
+    let (mut bytes, mut rows, mut addresses) = (vec![1; 80 << 10], vec![1; 1 << 10], vec![1; 1 << 10]);
+    let names = cakirotu::Names { call: b"sub_401000", register: b"rcx" };
+    let began = Instant::now();
+    for (lists, [text, tokens, lines], _) in &set.listings {
+        let sizes = cakirotu::Sizes { text: *text, tokens: *tokens, lines: *lines };
+        let mut lent = cakirotu::TableLists { bytes: &mut bytes, rows: &mut rows, addresses: &mut addresses };
+        let made = cakirotu::command_table_into(black_box(&port::held(lists)), sizes, names, &mut lent);
+        black_box(made.expect("tables of the benchmark are made"));
     }
     began.elapsed()
 }

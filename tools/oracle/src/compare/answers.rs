@@ -2,7 +2,7 @@
 
 /// By the answer's number.
 #[derive(Clone, Copy, Default)]
-pub struct Answers([usize; 18]);
+pub struct Answers([usize; 20]);
 
 impl Answers {
     pub fn add(&mut self, no: u8) {

@@ -316,7 +316,7 @@ pub fn any_number(rng: &mut Rng, world: &World) -> u64 {
     }
 }
 
-fn argument_register(rng: &mut Rng, world: &World) -> u8 {
+pub fn argument_register(rng: &mut Rng, world: &World) -> u8 {
     let index = rng.pick(&[1u8, 2, 6, 7, 8, 9]);
     match rng.below(10) {
         0 => r::AX + index,

@@ -212,6 +212,7 @@ fn second() -> Port {
         write_rows: write,
         read_rows: read,
         read_literal: crate::literals::read,
+        command_table: crate::tables::make,
     }
 }
 

@@ -1,0 +1,15 @@
+pub mod Same
+pub mod Strings
+pub mod Tokens
+pub mod Asked
+pub mod Search
+pub mod Given
+pub mod For
+pub mod Sources
+pub mod Entries
+pub mod Told
+pub mod Printing
+pub mod Short
+pub mod Alike
+pub mod Turns
+pub mod Called
