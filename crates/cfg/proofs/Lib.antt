@@ -1,4 +1,6 @@
+pub mod Reading
+pub mod BlocksRead
 pub mod Within
-pub mod Found
+pub mod BackSearch
+pub mod Few
 pub mod Stands
-pub mod Sourced

@@ -1,3 +1,5 @@
 pub mod Graph
 pub mod Shape
-pub mod Sources
+pub mod Turn
+pub mod Looks
+pub mod Reads

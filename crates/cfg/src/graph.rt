@@ -1,14 +1,12 @@
 // The rows of a record's blocks, edges and instructions, read as document 01 speaks of them.
 use lists::reads::u8_at;
 use lists::reads::u16_in;
-use lists::reads::u64_at;
-use record::blocks::Address;
 use record::blocks::Place;
-use record::blocks::is_before;
 ghost use mathlib.Core.Path.{_≡_};
-ghost use Prim.Native.Nat.{_*_, _+_, _<_};
-ghost use Rattle.lists.specs.Bytes.{u64At};
-ghost use Rattle.cfg.specs.Graph.{firstIn, countIn, firstEdgeIn, edgesIn, labelWanted, endingIn, branchTo, lastIn, isShown, hasCondition, outside, edgeTo, edgeKind};
+ghost use Prim.Native.Nat.{_<_, _≤_};
+ghost use Rattle.cfg.specs.Graph.{firstIn, countIn, firstEdgeIn, edgesIn, labelWanted, endingIn, branchTo, lastIn, isShown, hasCondition};
+ghost use Rattle.cfg.specs.Turn.{edgesBefore};
+ghost use Rattle.cfg.specs.Reads.{Turns};
 
 pub fn first_in(blocks: &[u16], k: Place) -> u16
     ensures { λ r. ⌜ (r ≡ firstIn (now (blocks .entry)) (k .0)) × (r < 65536) ⌝ }
@@ -32,6 +30,18 @@ pub fn edges_in(blocks: &[u16], k: Place) -> u16
     ensures { λ r. ⌜ (r ≡ edgesIn (now (blocks .entry)) (k .0)) × (r < 65536) ⌝ }
 {
     u16_in(blocks, 8 * k.0 as usize + 3)
+}
+
+// How many edges the blocks before place k have: they end where those of the last one do.
+pub fn edges_before(blocks: &[u16], k: Place) -> usize
+    requires { ⌜ Turns (now blocks) (k .0) ⌝ }
+    ensures { λ r. ⌜ (r ≡ edgesBefore (now (blocks .entry)) (k .0)) × (r ≤ 131070) ⌝ }
+{
+    if k.0 == 0 {
+        return 0;
+    }
+    let last = Place(k.0 - 1);
+    first_edge_in(blocks, last) as usize + edges_in(blocks, last) as usize
 }
 
 pub fn label_wanted(blocks: &[u16], k: Place) -> bool
@@ -70,33 +80,8 @@ pub fn has_condition(blocks: &[u16], j: Place) -> bool
     (ending == 1) | (ending == 2)
 }
 
-pub fn edge_to(edges: &[u16], e: u32) -> Place
-    ensures { λ r. ⌜ r .0 ≡ edgeTo (now (edges .entry)) e ⌝ }
-{
-    Place(u16_in(edges, 2 * e as usize))
-}
-
-pub fn edge_kind(edges: &[u16], e: u32) -> u16
-    ensures { λ r. ⌜ r ≡ edgeKind (now (edges .entry)) e ⌝ }
-{
-    u16_in(edges, 2 * e as usize + 1)
-}
-
 pub fn is_shown(shown: &[u8], i: u32) -> bool
     ensures { λ r. ⌜ r ≡ isShown (now (shown .entry)) i ⌝ }
 {
     u8_at(shown, i as usize) == 1
-}
-
-pub fn target_at(targets: &[u8], e: u32) -> Address
-    ensures { λ r. ⌜ r .0 ≡ u64At (now (targets .entry)) (8 * e) ⌝ }
-{
-    Address(u64_at(targets, 8 * e as usize))
-}
-
-// Whether place k lies outside the places from `from` up to `to`.
-pub fn is_outside(from: Place, to: Place, k: Place) -> bool
-    ensures { λ r. ⌜ r ≡ outside (from .0) (to .0) (k .0) ⌝ }
-{
-    is_before(k, from) | !is_before(k, to)
 }

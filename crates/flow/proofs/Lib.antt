@@ -3,6 +3,7 @@ pub mod Row
 pub mod Totals
 pub mod Laws
 pub mod Terms
+pub mod Turned
 pub mod Bounds
 pub mod Silenced
 pub mod LinesRead

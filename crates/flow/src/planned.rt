@@ -7,16 +7,16 @@ use lists::reads::from as part_from;
 use record::header::Header;
 use record::layout::size;
 use record::layout::targets_at;
+use structure::blocks::Written;
 use structure::plan::plan;
 ghost use mathlib.Core.Path.{_≡_};
-ghost use mathlib.Core.Bool.{true};
-ghost use Prim.Native.Nat.{_*_, _≤_};
+ghost use Prim.Native.Nat.{_-_, _*_, _≤_};
 ghost use lib.ListN.{length};
-ghost use Rattle.record.specs.Header.{limitsOk};
 ghost use Rattle.structure.specs.Stored.{Stored};
 ghost use Rattle.x86.specs.Table.{isaBytes};
 ghost use Rattle.flow.specs.Rows.{blockRows};
-ghost use Rattle.flow.specs.Planned.{recordCodes};
+ghost use Rattle.flow.specs.Counted.{Plannable};
+ghost use Rattle.flow.specs.Planned.{recordCodes, recordLooks};
 
 // The lines' codes from the start of the list on, with the rows of edges in a list that has room for them.
 fn plan_edges(
@@ -28,12 +28,13 @@ fn plan_edges(
     from: u16,
     to: u16,
     out: &mut [u64],
-) -> usize
+) -> Written
     requires isa { ⌜ now isa ≡ isaBytes ⌝ }
-    requires limits { ⌜ limitsOk h ≡ true ⌝ }
+    requires asked { ⌜ Plannable h (now rec) from to ⌝ }
     requires rows { ⌜ now blocks ≡ blockRows h (now rec) ⌝ }
     requires room { ⌜ 2 * h .edges ≤ length (now edges) ⌝ }
-    ensures { λ r. ⌜ Stored (now (out .entry)) 0 (recordCodes h (now (rec .entry)) from to) r (now (out .exit)) ⌝ }
+    ensures lines { λ r. ⌜ Stored (now (out .entry)) 0 (recordCodes h (now (rec .entry)) from to) (r .next) (now (out .exit)) ⌝ }
+    ensures looks { λ r. ⌜ (r .looks ≡ recordLooks h (now (rec .entry)) from to) × (r .looks ≤ 5 * (to - from) * h .edges) ⌝ }
 {
     let mut shown = [0u8; 500];
     edge_rows(rec, h, edges);
@@ -54,7 +55,7 @@ fn plan_edges(
     )
 }
 
-// The lines' codes from the start of the list on; answers how many there are, stored or not. The blocks' rows are lent. Few edges have a
+// The lines' codes from the start of the list on; answers how many there are, stored or not, and how many edges were read. The blocks' rows are lent. Few edges have a
 // short list.
 pub fn plan_record(
     isa: &[u8],
@@ -64,11 +65,12 @@ pub fn plan_record(
     from: u16,
     to: u16,
     out: &mut [u64],
-) -> usize
+) -> Written
     requires isa { ⌜ now isa ≡ isaBytes ⌝ }
-    requires limits { ⌜ limitsOk h ≡ true ⌝ }
+    requires asked { ⌜ Plannable h (now rec) from to ⌝ }
     requires rows { ⌜ now blocks ≡ blockRows h (now rec) ⌝ }
-    ensures { λ r. ⌜ Stored (now (out .entry)) 0 (recordCodes h (now (rec .entry)) from to) r (now (out .exit)) ⌝ }
+    ensures lines { λ r. ⌜ Stored (now (out .entry)) 0 (recordCodes h (now (rec .entry)) from to) (r .next) (now (out .exit)) ⌝ }
+    ensures looks { λ r. ⌜ (r .looks ≡ recordLooks h (now (rec .entry)) from to) × (r .looks ≤ 5 * (to - from) * h .edges) ⌝ }
 {
     if h.edges <= 128 {
         let mut few = [0u16; 256];

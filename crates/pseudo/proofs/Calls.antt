@@ -26,8 +26,9 @@ use Rattle.operand.proofs.Bounds.{AllBytes}
 use Rattle.operand.specs.Lent.{Rising}
 use Rattle.flow.specs.Rows.{blockRows}
 use Rattle.flow.proofs.Laws.{filled}
-use Rattle.flow.specs.Counted.{Counted}
+use Rattle.flow.specs.Counted.{Counted, Plannable}
 use Rattle.flow.proofs.Totals.{marks-counted, limits-small}
+use Rattle.flow.proofs.Turned.{plannable}
 use Rattle.flow.specs.Planned.{recordPlan, recordCodes}
 use Rattle.flow.proofs.Bounds.{record-placed, record-few, record-within, record-shallow}
 use Rattle.line.specs.Fits.{Fits}
@@ -47,6 +48,9 @@ use Rattle.pseudo.proofs.Answers.{refused}
 module _ (s : List ℕ) (from to : ℕ) (h : Header) (a : Accepted s from to h) where
   pub limits : limitsOk h ≡ true
   limits = rw (a .header) (yes-limits s from to (a .yes))
+
+  pub planned : Plannable h s from to
+  planned = rw (a .header) (plannable s from to (a .yes))
 
   pub counted : Counted h s
   counted = rw (a .header) (marks-counted (headerOf s) s (yes-marks s from to (a .yes)))

@@ -206,8 +206,8 @@ fn list_planned(
         (listsOf (now (text .entry)) (now (ends .entry)) (now (kinds .entry)) (now (addresses .entry)) (now (marks .entry)) (now (places .entry)) (now (lines .entry)))
         (listsOf (now (text .exit)) (now (ends .exit)) (now (kinds .exit)) (now (addresses .exit)) (now (marks .exit)) (now (places .exit)) (now (lines .exit))) r ⌝ }
 {
-    let n = plan_record(isa_of(tables), rec, h, blocks, from, to, made);
-    let plan = part_u64(made, n);
+    let planned = plan_record(isa_of(tables), rec, h, blocks, from, to, made);
+    let plan = part_u64(made, planned.next);
     let range = u16_in(blocks, 8 * size(from));
     list_plan(
         text,

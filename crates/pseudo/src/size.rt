@@ -65,8 +65,8 @@ fn size_range(
     ensures { λ r. ⌜ r ≡ sizes (now (rec .entry)) from to ⌝ }
 {
     let mut made = [0u64; 900];
-    let n = plan_record(isa_of(tables), rec, h, blocks, from, to, &mut made);
-    let plan = part_u64(&made, n);
+    let planned = plan_record(isa_of(tables), rec, h, blocks, from, to, &mut made);
+    let plan = part_u64(&made, planned.next);
     let range = u16_in(blocks, 8 * wide(from));
     size_plan(tables, rec, h, rows, blocks, range, plan)
 }

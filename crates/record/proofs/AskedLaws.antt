@@ -44,6 +44,11 @@ module _ (s : List ℕ) (from to : ℕ) (yes : firstNo s from to ≡ 0) where
   unfolding sizesNo
   yes-limits = passed 2 (limitsOk h) (ask 4 (lengthOk h s) 0) (passed 1 (fieldsOk h) _ (passed 0 (headerFits s) _ (stages .0) .1) .1) .0
 
+  -- question 4
+  pub yes-length : lengthOk h s ≡ true
+  unfolding sizesNo
+  yes-length = passed 3 (lengthOk h s) 0 (passed 2 (limitsOk h) _ (passed 1 (fieldsOk h) _ (passed 0 (headerFits s) _ (stages .0) .1) .1) .1) .0
+
   -- question 5
   pub yes-marks : marksOk (marksOf h s) (h .blocks) (h .instructions) (h .edges) ≡ true
   unfolding blocksNo marksAsked

@@ -48,7 +48,7 @@ sum-one c i =
     let f : i + 0 ≡ i = omega arith in
     rw (e, f) (omega arith)
 
-sum-bound : (c : ℕ → ℕ) (n : ℕ) → ((k : ℕ) → c k < 65536) → sumBelow c n ≤ 65535 * n
+pub sum-bound : (c : ℕ → ℕ) (n : ℕ) → ((k : ℕ) → c k < 65536) → sumBelow c n ≤ 65535 * n
 sum-bound c zero h = zero-le
 sum-bound c (suc n) h = omega (arith, sum-bound c n h, h n)
 

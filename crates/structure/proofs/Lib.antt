@@ -4,6 +4,7 @@ pub mod Unsilenced
 pub mod Addresses
 pub mod Braces
 pub mod Few
+pub mod Looked
 pub mod PlanPlaced
 pub mod Rises
 pub mod LoopsClosed

@@ -1,5 +1,6 @@
 pub mod Tree
 pub mod Plan
+pub mod Looks
 pub mod Demand
 pub mod Codes
 pub mod Stored

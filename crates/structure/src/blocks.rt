@@ -3,6 +3,7 @@ use crate::lines::label;
 use crate::lines::one_less;
 use crate::lines::put_line;
 use crate::lines::shown_lines;
+use cfg::edges::Looked;
 use cfg::graph::branch_to;
 use cfg::graph::count_in;
 use cfg::graph::ending_in;
@@ -14,33 +15,46 @@ use record::blocks::Place;
 use record::blocks::is_before;
 use record::blocks::same_place;
 ghost use mathlib.Core.Path.{_≡_};
-ghost use Prim.Native.Nat.{_+_, _-_, _<_};
-ghost use Rattle.cfg.specs.Sources.{Sources};
+ghost use Prim.Native.Nat.{_+_, _-_, _≤_, _<_};
+ghost use Rattle.cfg.specs.Turn.{InTurn, edgesBefore};
 ghost use Rattle.structure.specs.Plan.{bodyCount, bodyLines, goesNext, jumpLines, closingLines, blockLines, plainLines, labelled};
+ghost use Rattle.structure.specs.Looks.{labelLooks};
 ghost use Rattle.structure.specs.Codes.{codes, headLines};
 ghost use Rattle.structure.specs.Stored.{Stored, Room};
 
-// Whether the block at place i of a range has a label.
+// Where a writer's lines end, and how many edges were read for them.
+pub struct Written {
+    pub next: usize,
+    pub looks: u64,
+}
+
+// Whether the block at place i of a range has a label: the outside test is asked only of a range's first block.
 fn is_labelled(
     blocks: &[u16],
     edges: &[u16],
-    firsts: &[u16],
-    lasts: &[u16],
     count: u16,
     from: Place,
     i: Place,
     to: Place,
-) -> bool
-    requires { ⌜ Sources (now blocks) (now edges) count (now firsts) (now lasts) ⌝ }
-    ensures { λ r. ⌜ r ≡ labelled (now (blocks .entry)) (now (edges .entry)) count (from .0) (i .0) (to .0) ⌝ }
+) -> Looked
+    requires { ⌜ InTurn (now blocks) (now edges) count ⌝ }
+    requires { ⌜ (from .0 ≤ to .0) × (to .0 ≤ count) ⌝ }
+    ensures found { λ r. ⌜ r .found ≡ labelled (now (blocks .entry)) (now (edges .entry)) count (from .0) (i .0) (to .0) ⌝ }
+    ensures looks { λ r. ⌜ (r .looks ≡ labelLooks (now (blocks .entry)) (now (edges .entry)) count (from .0) (i .0) (to .0)) × (r .looks ≤ edgesBefore (now (blocks .entry)) count) ⌝ }
 {
     if label_wanted(blocks, i) {
         if is_before(from, i) {
-            return true;
+            return Looked {
+                found: true,
+                looks: 0,
+            };
         }
-        return has_outside_jump_to(blocks, edges, firsts, lasts, count, from, to, i);
+        return has_outside_jump_to(blocks, edges, count, from, to, i);
     }
-    false
+    Looked {
+        found: false,
+        looks: 0,
+    }
 }
 
 // How many instructions stand before a closing conditional branch or direct jmp.
@@ -139,8 +153,6 @@ pub fn emit_block(
 pub fn emit_plain(
     blocks: &[u16],
     edges: &[u16],
-    firsts: &[u16],
-    lasts: &[u16],
     shown: &[u8],
     count: u16,
     from: Place,
@@ -149,20 +161,25 @@ pub fn emit_plain(
     indent: u32,
     out: &mut [u64],
     at: usize,
-) -> usize
-    requires { ⌜ (indent < 131072) × Room at (codes (plainLines (now blocks) (now edges) (now shown) count (from .0) (i .0) (to .0) indent)) × Sources (now blocks) (now edges) count (now firsts) (now lasts) ⌝ }
-    ensures { λ r. ⌜ Stored (now (out .entry)) at (codes (plainLines (now (blocks .entry)) (now (edges .entry)) (now (shown .entry)) count (from .0) (i .0) (to .0) indent)) r (now (out .exit)) ⌝ }
+) -> Written
+    requires { ⌜ (from .0 ≤ to .0) × (to .0 ≤ count) × (indent < 131072) ⌝ }
+    requires { ⌜ InTurn (now blocks) (now edges) count ⌝ }
+    requires { ⌜ Room at (codes (plainLines (now blocks) (now edges) (now shown) count (from .0) (i .0) (to .0) indent)) ⌝ }
+    ensures lines { λ r. ⌜ Stored (now (out .entry)) at (codes (plainLines (now (blocks .entry)) (now (edges .entry)) (now (shown .entry)) count (from .0) (i .0) (to .0) indent)) (r .next) (now (out .exit)) ⌝ }
+    ensures looks { λ r. ⌜ (r .looks ≡ labelLooks (now (blocks .entry)) (now (edges .entry)) count (from .0) (i .0) (to .0)) × (r .looks ≤ edgesBefore (now (blocks .entry)) count) ⌝ }
 {
-    let wanted = is_labelled(blocks, edges, firsts, lasts, count, from, i, to);
-    emit_block(blocks, shown, wanted, i, to, indent, out, at)
+    let wanted = is_labelled(blocks, edges, count, from, i, to);
+    let next = emit_block(blocks, shown, wanted.found, i, to, indent, out, at);
+    Written {
+        next,
+        looks: wanted.looks,
+    }
 }
 
 // The block of an if-region, with its opening line.
 pub fn emit_head(
     blocks: &[u16],
     edges: &[u16],
-    firsts: &[u16],
-    lasts: &[u16],
     shown: &[u8],
     count: u16,
     from: Place,
@@ -171,12 +188,19 @@ pub fn emit_head(
     indent: u32,
     out: &mut [u64],
     at: usize,
-) -> usize
-    requires { ⌜ (indent < 131072) × Room at (codes (headLines (now blocks) (now edges) (now shown) count (from .0) (i .0) (to .0) indent)) × Sources (now blocks) (now edges) count (now firsts) (now lasts) ⌝ }
-    ensures { λ r. ⌜ Stored (now (out .entry)) at (codes (headLines (now (blocks .entry)) (now (edges .entry)) (now (shown .entry)) count (from .0) (i .0) (to .0) indent)) r (now (out .exit)) ⌝ }
+) -> Written
+    requires { ⌜ (from .0 ≤ to .0) × (to .0 ≤ count) × (indent < 131072) ⌝ }
+    requires { ⌜ InTurn (now blocks) (now edges) count ⌝ }
+    requires { ⌜ Room at (codes (headLines (now blocks) (now edges) (now shown) count (from .0) (i .0) (to .0) indent)) ⌝ }
+    ensures lines { λ r. ⌜ Stored (now (out .entry)) at (codes (headLines (now (blocks .entry)) (now (edges .entry)) (now (shown .entry)) count (from .0) (i .0) (to .0) indent)) (r .next) (now (out .exit)) ⌝ }
+    ensures looks { λ r. ⌜ (r .looks ≡ labelLooks (now (blocks .entry)) (now (edges .entry)) count (from .0) (i .0) (to .0)) × (r .looks ≤ edgesBefore (now (blocks .entry)) count) ⌝ }
 {
-    let wanted = is_labelled(blocks, edges, firsts, lasts, count, from, i, to);
-    let n = label(out, at, wanted, i, indent);
+    let wanted = is_labelled(blocks, edges, count, from, i, to);
+    let n = label(out, at, wanted.found, i, indent);
     let m = body_lines(blocks, shown, i, indent, out, n);
-    put_line(out, m, 2, i, last_in(blocks, i), indent)
+    let next = put_line(out, m, 2, i, last_in(blocks, i), indent);
+    Written {
+        next,
+        looks: wanted.looks,
+    }
 }

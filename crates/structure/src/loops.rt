@@ -1,9 +1,11 @@
 // The lines of a do-loop: its label, its do-line, its body, which is flat, and its while-line.
+use crate::blocks::Written;
 use crate::blocks::emit_block;
 use crate::lines::label;
 use crate::lines::one_less;
 use crate::lines::put_line;
 use crate::lines::shown_lines;
+use cfg::edges::Looked;
 use cfg::graph::count_in;
 use cfg::graph::first_in;
 use cfg::graph::label_wanted;
@@ -12,9 +14,10 @@ use cfg::tests::has_outside_jump_to;
 use record::blocks::Place;
 use record::blocks::is_before;
 ghost use mathlib.Core.Path.{_≡_};
-ghost use Prim.Native.Nat.{_+_, _-_, _<_};
-ghost use Rattle.cfg.specs.Sources.{Sources};
+ghost use Prim.Native.Nat.{_+_, _-_, _≤_, _<_};
+ghost use Rattle.cfg.specs.Turn.{InTurn, edgesBefore};
 ghost use Rattle.structure.specs.Plan.{innerLabelled, flatLines, testBlock, loopLines, headLabelled};
+ghost use Rattle.structure.specs.Looks.{headLooks};
 ghost use Rattle.structure.specs.Codes.{codes, doLines};
 ghost use Rattle.structure.specs.Stored.{Stored, Room};
 
@@ -96,30 +99,25 @@ fn emit_do(
 }
 
 // Whether a do-head has a label.
-fn head_labelled(
-    blocks: &[u16],
-    edges: &[u16],
-    firsts: &[u16],
-    lasts: &[u16],
-    count: u16,
-    i: Place,
-    j: Place,
-) -> bool
-    requires { ⌜ (j .0 < 65535) × Sources (now blocks) (now edges) count (now firsts) (now lasts) ⌝ }
-    ensures { λ r. ⌜ r ≡ headLabelled (now (blocks .entry)) (now (edges .entry)) count (i .0) (j .0) ⌝ }
+fn head_labelled(blocks: &[u16], edges: &[u16], count: u16, i: Place, j: Place) -> Looked
+    requires { ⌜ InTurn (now blocks) (now edges) count ⌝ }
+    requires { ⌜ (i .0 ≤ j .0) × (j .0 < count) ⌝ }
+    ensures found { λ r. ⌜ r .found ≡ headLabelled (now (blocks .entry)) (now (edges .entry)) count (i .0) (j .0) ⌝ }
+    ensures looks { λ r. ⌜ (r .looks ≡ headLooks (now (blocks .entry)) (now (edges .entry)) count (i .0) (j .0)) × (r .looks ≤ edgesBefore (now (blocks .entry)) count) ⌝ }
 {
     if label_wanted(blocks, i) {
-        return has_outside_jump_to(blocks, edges, firsts, lasts, count, i, Place(j.0 + 1), i);
+        return has_outside_jump_to(blocks, edges, count, i, Place(j.0 + 1), i);
     }
-    false
+    Looked {
+        found: false,
+        looks: 0,
+    }
 }
 
 // The do-loop from i to j.
 pub fn emit_loop(
     blocks: &[u16],
     edges: &[u16],
-    firsts: &[u16],
-    lasts: &[u16],
     shown: &[u8],
     count: u16,
     i: Place,
@@ -127,12 +125,19 @@ pub fn emit_loop(
     indent: u32,
     out: &mut [u64],
     at: usize,
-) -> usize
-    requires { ⌜ (j .0 < 65535) × (indent + 1 < 131072) × Room at (codes (loopLines (now blocks) (now edges) (now shown) count (i .0) (j .0) indent)) × Sources (now blocks) (now edges) count (now firsts) (now lasts) ⌝ }
-    ensures { λ r. ⌜ Stored (now (out .entry)) at (codes (loopLines (now (blocks .entry)) (now (edges .entry)) (now (shown .entry)) count (i .0) (j .0) indent)) r (now (out .exit)) ⌝ }
+) -> Written
+    requires { ⌜ (i .0 ≤ j .0) × (j .0 < count) × (indent + 1 < 131072) ⌝ }
+    requires { ⌜ InTurn (now blocks) (now edges) count ⌝ }
+    requires { ⌜ Room at (codes (loopLines (now blocks) (now edges) (now shown) count (i .0) (j .0) indent)) ⌝ }
+    ensures lines { λ r. ⌜ Stored (now (out .entry)) at (codes (loopLines (now (blocks .entry)) (now (edges .entry)) (now (shown .entry)) count (i .0) (j .0) indent)) (r .next) (now (out .exit)) ⌝ }
+    ensures looks { λ r. ⌜ (r .looks ≡ headLooks (now (blocks .entry)) (now (edges .entry)) count (i .0) (j .0)) × (r .looks ≤ edgesBefore (now (blocks .entry)) count) ⌝ }
 {
-    let wanted = head_labelled(blocks, edges, firsts, lasts, count, i, j);
-    let n = label(out, at, wanted, i, indent);
+    let wanted = head_labelled(blocks, edges, count, i, j);
+    let n = label(out, at, wanted.found, i, indent);
     let m = put_line(out, n, 1, i, 0, indent);
-    emit_do(blocks, shown, i, j, indent, out, m)
+    let next = emit_do(blocks, shown, i, j, indent, out, m);
+    Written {
+        next,
+        looks: wanted.looks,
+    }
 }

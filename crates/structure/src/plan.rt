@@ -1,16 +1,18 @@
 // The plan of a range: the range writer and the writer of one if-region call each other, on ever shorter spans.
+use crate::blocks::Written;
 use crate::blocks::emit_head;
 use crate::blocks::emit_plain;
 use crate::lines::put_line;
 use crate::loops::emit_loop;
 use cfg::shape::Shape;
 use cfg::shape::shape_at;
-use cfg::sources::first_sources;
-use cfg::sources::last_sources;
 use record::blocks::Place;
-ghost use Prim.Native.Nat.{_+_, _-_, _<_};
-ghost use Rattle.cfg.specs.Sources.{Ends, Sources};
+ghost use mathlib.Core.Path.{_≡_};
+ghost use Prim.Native.Nat.{_+_, _-_, _*_, _≤_, _<_};
+ghost use lib.ListN.{length};
+ghost use Rattle.cfg.specs.Turn.{InTurn, edgesBefore};
 ghost use Rattle.structure.specs.Plan.{regionLines, rangeLines, planCodes};
+ghost use Rattle.structure.specs.Looks.{labelLooks, rangeLooks};
 ghost use Rattle.structure.specs.Codes.{codes};
 ghost use Rattle.structure.specs.Stored.{Stored, Room};
 
@@ -18,9 +20,6 @@ ghost use Rattle.structure.specs.Stored.{Stored, Room};
 fn emit_range(
     blocks: &[u16],
     edges: &[u16],
-    ends: &[u16],
-    firsts: &[u16],
-    lasts: &[u16],
     shown: &[u8],
     starts: &[u8],
     targets: &[u8],
@@ -30,52 +29,33 @@ fn emit_range(
     indent: u32,
     out: &mut [u64],
     at: usize,
-) -> usize
-    requires { ⌜ (to .0 < 65536) × (indent + (to .0 - from .0) < 131072) ⌝ }
-    requires { ⌜ Ends (now blocks) (now edges) (from .0) (to .0) (now ends) ⌝ }
-    requires { ⌜ Sources (now blocks) (now edges) count (now firsts) (now lasts) ⌝ }
+) -> Written
+    requires { ⌜ (to .0 ≤ count) × (indent + (to .0 - from .0) < 131072) ⌝ }
+    requires { ⌜ InTurn (now blocks) (now edges) count ⌝ }
+    requires { ⌜ 8 * edgesBefore (now blocks) count ≤ length (now targets) ⌝ }
     requires { ⌜ Room at (codes (rangeLines (now blocks) (now edges) (now shown) (now starts) (now targets) count (from .0) (from .0) (to .0) indent)) ⌝ }
-    ensures { λ r. ⌜ Stored (now (out .entry)) at (codes (rangeLines (now (blocks .entry)) (now (edges .entry)) (now (shown .entry)) (now (starts .entry)) (now (targets .entry)) count (from .0) (from .0) (to .0) indent)) r (now (out .exit)) ⌝ }
+    ensures lines { λ r. ⌜ Stored (now (out .entry)) at (codes (rangeLines (now (blocks .entry)) (now (edges .entry)) (now (shown .entry)) (now (starts .entry)) (now (targets .entry)) count (from .0) (from .0) (to .0) indent)) (r .next) (now (out .exit)) ⌝ }
+    ensures looks { λ r. ⌜ r .looks ≡ rangeLooks (now (blocks .entry)) (now (edges .entry)) (now (starts .entry)) (now (targets .entry)) count (from .0) (from .0) (to .0) ⌝ }
 {
     let end = to.0;
     let mut i = from.0;
     let mut n = at;
+    let mut looks: u64 = 0;
     while i < end {
-        match shape_at(
-            blocks,
-            edges,
-            ends,
-            firsts,
-            lasts,
-            starts,
-            targets,
-            count,
-            Place(i),
-            to,
-        ) {
+        let seen = shape_at(blocks, edges, starts, targets, count, Place(i), to);
+        looks += seen.looks;
+        let shape = seen.shape;
+        match shape {
             Shape::Loop(j) => {
-                n = emit_loop(
-                    blocks,
-                    edges,
-                    firsts,
-                    lasts,
-                    shown,
-                    count,
-                    Place(i),
-                    j,
-                    indent,
-                    out,
-                    n,
-                );
+                let written = emit_loop(blocks, edges, shown, count, Place(i), j, indent, out, n);
+                n = written.next;
+                looks += written.looks;
                 i = j.0 + 1;
             }
             Shape::Region(t) => {
-                n = emit_region(
+                let written = emit_region(
                     blocks,
                     edges,
-                    ends,
-                    firsts,
-                    lasts,
                     shown,
                     starts,
                     targets,
@@ -88,14 +68,14 @@ fn emit_range(
                     out,
                     n,
                 );
+                n = written.next;
+                looks += written.looks;
                 i = t.0;
             }
             Shape::Plain => {
-                n = emit_plain(
+                let written = emit_plain(
                     blocks,
                     edges,
-                    firsts,
-                    lasts,
                     shown,
                     count,
                     from,
@@ -105,20 +85,19 @@ fn emit_range(
                     out,
                     n,
                 );
+                n = written.next;
+                looks += written.looks;
                 i += 1;
             }
         }
     }
-    n
+    Written { next: n, looks }
 }
 
 // The lines of the if-region at place i up to place t, in the range from `from` up to `to`.
 fn emit_region(
     blocks: &[u16],
     edges: &[u16],
-    ends: &[u16],
-    firsts: &[u16],
-    lasts: &[u16],
     shown: &[u8],
     starts: &[u8],
     targets: &[u8],
@@ -130,33 +109,18 @@ fn emit_region(
     indent: u32,
     out: &mut [u64],
     at: usize,
-) -> usize
-    requires { ⌜ (i .0 + 1 < t .0) × (t .0 < 65536) × (indent + (t .0 - i .0) < 131072) ⌝ }
-    requires { ⌜ Ends (now blocks) (now edges) (i .0 + 1) (t .0) (now ends) ⌝ }
-    requires { ⌜ Sources (now blocks) (now edges) count (now firsts) (now lasts) ⌝ }
+) -> Written
+    requires { ⌜ (from .0 ≤ i .0) × (i .0 + 1 < t .0) × (t .0 ≤ to .0) × (to .0 ≤ count) × (indent + (t .0 - i .0) < 131072) ⌝ }
+    requires { ⌜ InTurn (now blocks) (now edges) count ⌝ }
+    requires { ⌜ 8 * edgesBefore (now blocks) count ≤ length (now targets) ⌝ }
     requires { ⌜ Room at (codes (regionLines (now blocks) (now edges) (now shown) count (rangeLines (now blocks) (now edges) (now shown) (now starts) (now targets) count (i .0 + 1) (i .0 + 1) (t .0) (indent + 1)) (from .0) (i .0) (to .0) indent)) ⌝ }
-    ensures { λ r. ⌜ Stored (now (out .entry)) at (codes (regionLines (now (blocks .entry)) (now (edges .entry)) (now (shown .entry)) count (rangeLines (now (blocks .entry)) (now (edges .entry)) (now (shown .entry)) (now (starts .entry)) (now (targets .entry)) count (i .0 + 1) (i .0 + 1) (t .0) (indent + 1)) (from .0) (i .0) (to .0) indent)) r (now (out .exit)) ⌝ }
+    ensures lines { λ r. ⌜ Stored (now (out .entry)) at (codes (regionLines (now (blocks .entry)) (now (edges .entry)) (now (shown .entry)) count (rangeLines (now (blocks .entry)) (now (edges .entry)) (now (shown .entry)) (now (starts .entry)) (now (targets .entry)) count (i .0 + 1) (i .0 + 1) (t .0) (indent + 1)) (from .0) (i .0) (to .0) indent)) (r .next) (now (out .exit)) ⌝ }
+    ensures looks { λ r. ⌜ r .looks ≡ labelLooks (now (blocks .entry)) (now (edges .entry)) count (from .0) (i .0) (to .0) + rangeLooks (now (blocks .entry)) (now (edges .entry)) (now (starts .entry)) (now (targets .entry)) count (i .0 + 1) (i .0 + 1) (t .0) ⌝ }
 {
-    let n = emit_head(
+    let head = emit_head(blocks, edges, shown, count, from, i, to, indent, out, at);
+    let inner = emit_range(
         blocks,
         edges,
-        firsts,
-        lasts,
-        shown,
-        count,
-        from,
-        i,
-        to,
-        indent,
-        out,
-        at,
-    );
-    let m = emit_range(
-        blocks,
-        edges,
-        ends,
-        firsts,
-        lasts,
         shown,
         starts,
         targets,
@@ -165,13 +129,17 @@ fn emit_region(
         t,
         indent + 1,
         out,
-        n,
+        head.next,
     );
-    put_line(out, m, 5, i, 0, indent)
+    let next = put_line(out, inner.next, 5, i, 0, indent);
+    Written {
+        next,
+        looks: head.looks + inner.looks,
+    }
 }
 
-// The plan of the range from `from` up to `to`, from an indent on: one number a line from the start of the list, and how many
-// lines there are, stored or not.
+// The plan of the range from `from` up to `to`, from an indent on: one number a line from the start of the list, how many
+// lines there are, stored or not, and how many edges were read for them.
 pub fn plan(
     blocks: &[u16],
     edges: &[u16],
@@ -183,25 +151,16 @@ pub fn plan(
     to: u16,
     indent: u8,
     out: &mut [u64],
-) -> usize
-    ensures { λ r. ⌜ Stored (now (out .entry)) 0 (planCodes (now (blocks .entry)) (now (edges .entry)) (now (shown .entry)) (now (starts .entry)) (now (targets .entry)) count from to indent) r (now (out .exit)) ⌝ }
+) -> Written
+    requires { ⌜ to ≤ count ⌝ }
+    requires { ⌜ InTurn (now blocks) (now edges) count ⌝ }
+    requires { ⌜ 8 * edgesBefore (now blocks) count ≤ length (now targets) ⌝ }
+    ensures lines { λ r. ⌜ Stored (now (out .entry)) 0 (planCodes (now (blocks .entry)) (now (edges .entry)) (now (shown .entry)) (now (starts .entry)) (now (targets .entry)) count from to indent) (r .next) (now (out .exit)) ⌝ }
+    ensures looks { λ r. ⌜ (r .looks ≡ rangeLooks (now (blocks .entry)) (now (edges .entry)) (now (starts .entry)) (now (targets .entry)) count from from to) × (r .looks ≤ 5 * (to - from) * edgesBefore (now (blocks .entry)) count) ⌝ }
 {
-    // Entries for more places than a record has blocks; of a place beyond them nothing is known before its search.
-    let mut table = [0u16; 256];
-    last_sources(blocks, edges, true, from, to, &mut table);
-    let ends: &[u16] = &table;
-    let mut low = [65535u16; 256];
-    first_sources(blocks, edges, count, &mut low);
-    let firsts: &[u16] = &low;
-    let mut high = [0u16; 256];
-    last_sources(blocks, edges, false, 0, count, &mut high);
-    let lasts: &[u16] = &high;
     emit_range(
         blocks,
         edges,
-        ends,
-        firsts,
-        lasts,
         shown,
         starts,
         targets,

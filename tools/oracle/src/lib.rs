@@ -1,5 +1,5 @@
 //! What the port is compared with: the unchanged Rust emitter over a record, the amended one where document 02 departs from it, and the
-//! questions, rows, literals and command tables of documents 01 and 02 written a second time.
+//! questions, rows, literals, command tables and looks of documents 01 and 02 written a second time.
 
 pub mod compare;
 pub mod damage;
@@ -10,6 +10,7 @@ pub mod lines;
 pub mod listing;
 pub mod lists;
 pub mod literals;
+pub mod looks;
 #[cfg(mutants)]
 pub mod mutants;
 pub mod pieces;

@@ -2,6 +2,7 @@
 -- By whether a region stands there.
 use mathlib.Core.Path.{sym, ap}
 use Prim.Native.Nat.{ℕ}
+use native.Mathlib.Omega.{arith}
 use Rattle.cfg.specs.Shape.{place, regionAt}
 use Rattle.cfg.specs.declared.shape.Shape.the-variants.{Region}
 use borrow.Author.Needs.{needs}
@@ -14,13 +15,24 @@ opens-region-requires c κs = search needs
 branch-to-requires : tie.Need-branch-to-requires
 branch-to-requires c κs = search needs
 
+add-t13 : tie.Need-add-t13
+add-t13 c = search needs
+
 returns : tie.Need-returns
 unfolding regionAt
-returns c = simp (sym (c .before .before .opens-region .ensures), c .before .if1 .taken) (ap (λ (k : ℕ). Region (place k)) (c .branch-to .ensures))
+returns c =
+    let r = c .before .before .before .opens-region .ensures in
+    (simp (sym (r .0), c .before .before .if1 .taken) (ap (λ (k : ℕ). Region (place k)) (c .before .branch-to .ensures)), omega (arith, r .1 .0))
+
+add-t15 : tie.Need-add-t15
+add-t15 c = search needs
 
 returns-2 : tie.Need-returns-2
 unfolding regionAt
-returns-2 c = simp (sym (c .before .opens-region .ensures), c .if1 .left)
+returns-2 c =
+    let r = c .before .before .opens-region .ensures in
+    (simp (sym (r .0), c .before .if1 .left), omega (arith, r .1 .0))
 
 pub region-at-spec : {M : Type 1} → statement M
-region-at-spec = tie.close (tie.spec opens-region-requires branch-to-requires returns returns-2)
+region-at-spec =
+    tie.close (tie.spec opens-region-requires branch-to-requires add-t13 returns add-t15 returns-2)

@@ -1,26 +1,22 @@
 -- Whether a block outside jumps to a place: `has_outside_jump_to` meets its contract.
--- No block before the place's first source and none behind its last one does.
-use mathlib.Core.Path.{_∙_}
-use Rattle.cfg.proofs.Sourced.{jumps-between}
+-- By the definitions, with what was wanted.
+use native.Mathlib.Omega.{arith}
+use Rattle.cfg.specs.Graph.{outsideJump}
+use Rattle.cfg.specs.Looks.{outsideLooks}
+use Rattle.cfg.proofs.Few.{outside-few}
 use borrow.Author.Needs.{needs}
 use Rattle.cfg.proofs.tests.has_outside_jump_to.Statement.{statement}
 use Rattle.cfg.proofs.tests.has_outside_jump_to.Tie as tie
 
-search-start-requires : tie.Need-search-start-requires
-search-start-requires c κs = search needs
-
-search-end-requires : tie.Need-search-end-requires
-search-end-requires c κs = search needs
-
-has-outside-edge-requires : tie.Need-has-outside-edge-requires
-has-outside-edge-requires c κs = search needs
+read-outside-requires : tie.Need-read-outside-requires
+read-outside-requires c κs = search needs
 
 returns : tie.Need-returns
+unfolding outsideJump outsideLooks
 returns c =
-    let a = (c .before .before .before .before .before .before .before .args) in
-    (c .has-outside-edge) .ensures ∙ jumps-between (a .blocks .now) (a .edges .now) (a .count) (a .firsts .now) (a .lasts .now) (c .before .before .before .before .before .before .before .pre) (a .from .0) (a .to .0) (a .i .0) ((c .before .before .search-start) .result .0) ((c .before .search-end) .result .0) ((c .before .before .search-start) .ensures) ((c .before .search-end) .ensures)
+    let r = c .read-outside .ensures in
+    let a = c .before .before .before .args in
+    (r .0, (r .1 .0, omega (arith, r .1 .0, outside-few (a .blocks .now) (a .edges .now) (a .count) (a .from .0) (a .to .0) (a .i .0))))
 
 pub has-outside-jump-to-spec : {M : Type 1} → statement M
-has-outside-jump-to-spec =
-    tie.close
-    (tie.spec search-start-requires search-end-requires has-outside-edge-requires returns)
+has-outside-jump-to-spec = tie.close (tie.spec read-outside-requires returns)

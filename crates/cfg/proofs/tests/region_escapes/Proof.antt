@@ -1,75 +1,68 @@
 -- Whether a region escapes: `region_escapes` meets its contract.
--- The invariant: no block of it so far has an edge that leaves it backwards.
-use mathlib.Core.Path.{_≡_, sym, _∙_}
-use mathlib.Core.Bool.{false}
-use Prim.Native.Nat.{_+_, _-_, _≤_}
-use Rattle.lists.specs.Choice.{anyBelow}
-use Rattle.cfg.specs.Graph.{hasEdge, leaves, escapes}
-use Rattle.cfg.proofs.Found.{place-found, place-goes-on}
-use borrow.Author.Needs.{needs}
+-- Its blocks stand in turn, so that their edges are one part, and both starts are as they were read.
+use mathlib.Core.Path.{_≡_, ap}
+use mathlib.Core.Bool.{not, _&&_}
+use mathlib.Core.List.{List}
+use Prim.Native.Nat.{ℕ, _-_, _*_}
 use native.Mathlib.Omega.{arith}
+use lib.Dec.{ltb, eqb}
+use Rattle.lists.specs.Bytes.{u64At}
+use Rattle.record.specs.Blocks.{startAt}
+use Rattle.cfg.specs.Graph.{leaves, escapes}
+use Rattle.cfg.specs.Looks.{escapeLooks}
+use Rattle.cfg.specs.Reads.{Reads}
+use Rattle.cfg.specs.declared.edges.Looked.{Looked}
+use Rattle.cfg.proofs.BlocksRead.{before-le, region-reads}
+use borrow.Author.Needs.{needs}
 use Rattle.cfg.proofs.tests.region_escapes.Statement.{statement}
 use Rattle.cfg.proofs.tests.region_escapes.Tie as tie
 
-abbrev Inv-loop : tie.InvT-loop
-Inv-loop blocks starts targets from to first excepted k₀ k = (from .0 ≤ k) × (k - from .0 ≤ to .0 - from .0) × (anyBelow (λ m. hasEdge blocks (leaves starts targets (from .0) (to .0)) (from .0 + m)) (k - from .0) ≡ false)
+lent : (starts targets : List ℕ) (from to f x : ℕ) {e n : ℕ} {r : Looked} → f ≡ startAt starts from → x ≡ startAt starts to
+    → Reads (λ k. ltb (u64At targets (8 * k)) f && not (eqb (u64At targets (8 * k)) x)) e n r → Reads (leaves starts targets from to) e n r
+lent starts targets from to f x p q h = rw (p, q) at h
 
-abbrev μ-loop : tie.MeasureT-loop
-μ-loop blocks starts targets from to first excepted k₀ k = to .0 - k
-
-start-at-requires : tie.Need-start-at-requires Inv-loop μ-loop
+start-at-requires : tie.Need-start-at-requires
 start-at-requires c κs = search needs
 
-start-at-requires-2 : tie.Need-start-at-requires-2 Inv-loop μ-loop
+start-at-requires-2 : tie.Need-start-at-requires-2
 start-at-requires-2 c κs = search needs
 
-loop-holds : tie.Need-loop-holds Inv-loop μ-loop
-loop-holds c = let a = c .before .before .before .before .before .args in let e : a .from .0 - a .from .0 ≡ 0 = omega arith in (search needs, search needs, rw e)
+edges-before-requires : tie.Need-edges-before-requires
+edges-before-requires c κs = λ k h. c .before .before .before .before .before .pre .0 k (search needs)
 
-leaves-from-requires : tie.Need-leaves-from-requires Inv-loop μ-loop
-leaves-from-requires c κs = let s = c .before .before .before in (s .before .start-at .ensures, s .start-at2 .ensures)
+edges-before-requires-2 : tie.Need-edges-before-requires-2
+edges-before-requires-2 c κs = search needs
 
-returns : tie.Need-returns Inv-loop μ-loop
-unfolding escapes
+sub-read-targets : tie.Need-sub-read-targets
+sub-read-targets c =
+    let s = c .before .before .before .before .before .before .before in
+    omega (arith, c .edges-before2 .ensures .0, c .before .edges-before .ensures .0, before-le (s .args .blocks .now) (s .args .from .0) (s .args .to .0) (s .pre .1 .0))
+
+read-targets-requires : tie.Need-read-targets-requires
+read-targets-requires c κs =
+    let s = c .before .before .before .before .before .before .before in
+    omega (arith, c .edges-before2 .ensures .0, c .before .edges-before .ensures .0, s .pre .1 .1, before-le (s .args .blocks .now) (s .args .from .0) (s .args .to .0) (s .pre .1 .0))
+
+returns : tie.Need-returns
+unfolding escapes escapeLooks
 returns c =
-    let t = c .before in
-    let l = t .before .before .before in
-    let a = l .before .before .before .before .before .before .args in
-    sym (place-found (hasEdge (a .blocks .now) (leaves (a .starts .now) (a .targets .now) (a .from .0) (a .to .0))) (a .from .0) (l .loop .k) (l .loop .inv .0) (a .to .0) (search needs) (sym (t .leaves-from .ensures) ∙ c .if2 .taken))
-
-add-k : tie.Need-add-k Inv-loop μ-loop
-add-k c = search needs
-
-loop-less : tie.Need-loop-less Inv-loop μ-loop
-loop-less c = search needs
-
-loop-again : tie.Need-loop-again Inv-loop μ-loop
-loop-again c =
-    let t = c .before in
-    let l = t .before .before .before in
-    let a = l .before .before .before .before .before .before .args in
-    (search needs, search needs, place-goes-on (hasEdge (a .blocks .now) (leaves (a .starts .now) (a .targets .now) (a .from .0) (a .to .0))) (a .from .0) (l .loop .k) (l .loop .inv .0) (l .loop .inv .2) (sym (t .leaves-from .ensures) ∙ c .if2 .left))
-
-returns-2 : tie.Need-returns-2 Inv-loop μ-loop
-unfolding escapes
-returns-2 c =
-    let l = c .before .before in
-    let a = l .before .before .before .before .before .before .args in
-    let e : l .loop .k - a .from .0 ≡ a .to .0 - a .from .0 = omega arith in
-    sym (rw e at (l .loop .inv .2))
+    let v = c .before in
+    let u = v .before in
+    let s = u .before .before .before .before .before .before in
+    let a = s .args in
+    let l = c .read-targets .ensures in
+    let r = lent (a .starts .now) (a .targets .now) (a .from .0) (a .to .0) _ _ (u .before .before .start-at .ensures) (u .before .start-at2 .ensures) l in
+    let e = region-reads (a .blocks .now) (leaves (a .starts .now) (a .targets .now) (a .from .0) (a .to .0)) (a .to .0) (a .from .0) (a .to .0) (s .pre .0) (s .pre .1 .0) (omega arith) r (u .edges-before .ensures .0) (ap (λ (x : ℕ). x - u .edges-before .result) (v .edges-before2 .ensures .0)) in
+    (ap (λ (q : Looked). q .found) e, (ap (λ (q : Looked). q .looks) e, omega (arith, l .few, v .edges-before2 .ensures .1)))
 
 pub region-escapes-spec : {M : Type 1} → statement M
 region-escapes-spec =
     tie.close
     (tie.spec
-    Inv-loop
-    μ-loop
     start-at-requires
     start-at-requires-2
-    loop-holds
-    leaves-from-requires
-    returns
-    add-k
-    loop-less
-    loop-again
-    returns-2)
+    edges-before-requires
+    edges-before-requires-2
+    sub-read-targets
+    read-targets-requires
+    returns)

@@ -26,7 +26,7 @@ slice-aggregate-plan-edges-2 c = search needs
 plan-edges-requires-2 : tie.Need-plan-edges-requires-2
 plan-edges-requires-2 c κs =
     let z = c .before .before .before .before .before .before .before .before in
-    (z .pre .0, (z .pre .1 .0, (z .pre .1 .1, omega (arith, limits-small (z .args .h) (z .pre .1 .0) .edges))))
+    (z .pre .0, (z .pre .1 .0, (z .pre .1 .1, omega (arith, limits-small (z .args .h) (z .pre .1 .0 .limits) .edges))))
 
 same-length-2 : tie.Need-same-length-2
 same-length-2 c = search needs

@@ -10,13 +10,15 @@ is-labelled-requires c κs = search needs
 emit-block-requires : tie.Need-emit-block-requires
 emit-block-requires c κs =
     let l = c .before in
-    (search needs, rw (l .is-labelled .ensures) (l .before .before .before .before .before .before .before .pre .1))
+    (search needs, rw (l .is-labelled .ensures .0) (l .before .before .before .before .before .pre .1 .1))
 
 same-length : tie.Need-same-length
 same-length c = search needs
 
 returns : tie.Need-returns
-returns c = rw (c .before .before .before .before .is-labelled .ensures) at (c .before .before .emit-block .ensures)
+returns c =
+    let l = c .before .before .before .before .is-labelled .ensures in
+    (rw (l .0) at (c .before .before .emit-block .ensures), l .1)
 
 pub emit-plain-spec : {M : Type 1} → statement M
 emit-plain-spec = tie.close (tie.spec is-labelled-requires emit-block-requires same-length returns)
