@@ -48,6 +48,9 @@ enum cakirotu_answer {
 /* Where the three sizes stand. */
 enum cakirotu_size_place { CAKIROTU_TEXT_BYTES, CAKIROTU_TOKENS, CAKIROTU_LINES, CAKIROTU_SIZES };
 
+/* Where cakirotu_list and cakirotu_size store the looks, behind the sizes, and how many entries they store in all. Rows and tables have none. */
+enum cakirotu_looks_place { CAKIROTU_LOOKS = CAKIROTU_SIZES, CAKIROTU_SIZES_AND_LOOKS };
+
 /* What a token is. */
 enum cakirotu_kind {
     CAKIROTU_TEXT,
@@ -65,7 +68,7 @@ enum cakirotu_kind {
 #define CAKIROTU_ADDRESSED 0x0100
 
 /* Lists the blocks from `from` up to but without `to`. With 0 the lists hold the listing and their entries past the sizes are as
- * they were; with a number every list is as it was and the sizes are 0.
+ * they were; with a number every list is as it was, and the sizes and the looks are 0.
  *
  * rec        the record's bytes
  * from, to   places of blocks in the record's order; 0 and the number of blocks for the whole of it
@@ -77,13 +80,16 @@ enum cakirotu_kind {
  * places     for each line the place of its block in the record: for a label, an instruction or an opening line the block it was written
  *            for, for a lone closing brace the block whose branch opened it, for a while-line the loop's last block
  * lines      for each line the number of tokens up to its end; it begins where the line before ends
- * sizes      gets text bytes, tokens, lines; a list shorter than 3 gets the first ones */
+ * sizes      gets text bytes, tokens, lines, looks; a list shorter than 4 gets the first ones
+ *
+ * Looks are the edges that were read to find loops, if-regions and labels, each as often as it was read: at most 5 for each block of the range
+ * and edge of the record. They depend on the record and the range alone, not on the lists. */
 uint8_t cakirotu_list(const uint8_t *rec, size_t rec_len, size_t from, size_t to, uint8_t *text, size_t text_len, uint32_t *ends,
                       size_t ends_len, uint8_t *kinds, size_t kinds_len, uint64_t *addresses, size_t addresses_len, uint16_t *marks,
                       size_t marks_len, uint16_t *places, size_t places_len, uint32_t *lines, size_t lines_len, uint64_t *sizes,
                       size_t sizes_len);
 
-/* The sizes of that listing: lists of just these lengths suffice for cakirotu_list. Answers 0 or a number, none of 12 to 14. */
+/* The sizes and the looks of that listing: lists of just these lengths suffice for cakirotu_list. Answers 0 or a number, none of 12 to 14. */
 uint8_t cakirotu_size(const uint8_t *rec, size_t rec_len, size_t from, size_t to, uint64_t *sizes, size_t sizes_len);
 
 /* The most bytes that rows of a listing of these sizes have.
@@ -99,7 +105,7 @@ uint8_t cakirotu_size(const uint8_t *rec, size_t rec_len, size_t from, size_t to
  * Answers 0, CAKIROTU_NO_ROWS or CAKIROTU_NO_TEXT_ROOM.
  *
  * text to lines  a listing's lists, as cakirotu_list fills them; entries past the sizes are not looked at
- * sizes          text bytes, tokens, lines; those that a list shorter than 3 lacks count as 0
+ * sizes          text bytes, tokens, lines; those that a list shorter than 3 lacks count as 0, and entries behind them are not looked at
  * out            gets the rows; CAKIROTU_ROWS_BYTES of them always suffice
  * size           gets how many bytes that are, in its first entry
  *
@@ -116,7 +122,7 @@ uint8_t cakirotu_write_rows(const uint8_t *text, size_t text_len, const uint32_t
  *
  * file           the rows; `file_len` bytes of text, a sixth as many tokens and a twelfth as many lines always suffice
  * text to lines  get the listing, as cakirotu_list fills them
- * sizes          gets text bytes, tokens, lines; a list shorter than 3 gets the first ones */
+ * sizes          gets text bytes, tokens, lines; a list shorter than 3 gets the first ones, and entries behind them are as they were */
 uint8_t cakirotu_read_rows(const uint8_t *file, size_t file_len, uint8_t *text, size_t text_len, uint32_t *ends, size_t ends_len,
                            uint8_t *kinds, size_t kinds_len, uint64_t *addresses, size_t addresses_len, uint16_t *marks, size_t marks_len,
                            uint16_t *places, size_t places_len, uint32_t *lines, size_t lines_len, uint64_t *sizes, size_t sizes_len);
@@ -157,7 +163,7 @@ enum cakirotu_count_place { CAKIROTU_TABLE_BYTES, CAKIROTU_TABLE_ROWS, CAKIROTU_
  * are 0. Answers 0, CAKIROTU_NO_NAMES, CAKIROTU_NO_ROWS, or CAKIROTU_NO_TEXT_ROOM for bytes, _TOKEN_ROOM for rows, _LINE_ROOM for calls.
  *
  * text to lines  a listing's lists, as cakirotu_list fills them; entries past the sizes are not looked at
- * sizes          text bytes, tokens, lines; those that a list shorter than 3 lacks count as 0
+ * sizes          text bytes, tokens, lines; those that a list shorter than 3 lacks count as 0, and entries behind them are not looked at
  * call           the name of the call, as the listing has it
  * reg            the name of the register, as the listing has it
  * bytes          gets the rows' bytes, one after another; CAKIROTU_LITERAL_BYTES for each line always suffice

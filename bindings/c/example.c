@@ -1,5 +1,6 @@
 /* Lists a record file as the program `listing` does: example FILE [FROM TO]
  * Prints its rows for a spreadsheet: example rows FILE; lists a file of rows: example back FILE
+ * Prints how much looking its listing takes, with its blocks and edges: example looks FILE
  * Exit status: 0 done, 1 refused, 2 nothing could be read or printed. */
 #include "cakirotu.h"
 
@@ -54,10 +55,13 @@ static uint8_t *read_file(const char *name, size_t most, size_t *len) {
     return need(realloc(bytes, *len > 0 ? *len : 1));
 }
 
-/* How many blocks the header says; any number will do for a record without one, which is refused. */
-static size_t blocks(const uint8_t *record, size_t len) {
-    return len < 24 ? 0 : (size_t)record[4] | (size_t)record[5] << 8;
+/* A number of the header; any will do for a record without one, which is refused. */
+static size_t header(const uint8_t *record, size_t len, size_t at) {
+    return len < 24 ? 0 : (size_t)record[at] | (size_t)record[at + 1] << 8;
 }
+
+static size_t blocks(const uint8_t *record, size_t len) { return header(record, len, 4); }
+static size_t edges(const uint8_t *record, size_t len) { return header(record, len, 8); }
 
 static void lend(struct listing *l) {
     l->text = room(l->sizes[CAKIROTU_TEXT_BYTES], sizeof *l->text);
@@ -136,33 +140,45 @@ static uint8_t read_rows(const uint8_t *rows, size_t len, struct listing *l) {
                               lines, l->lines, lines, l->sizes, CAKIROTU_SIZES);
 }
 
-int main(int argc, char **argv) {
-    int rows = argc == 3 && strcmp(argv[1], "rows") == 0;
-    int back = argc == 3 && strcmp(argv[1], "back") == 0;
-    if (argc != 2 && argc != 4 && !rows && !back) {
-        fputs("usage: example FILE [FROM TO], example rows FILE, example back FILE\n", stderr);
-        return 2;
+static uint8_t print_looks(const uint8_t *record, size_t len) {
+    uint64_t sizes[CAKIROTU_SIZES_AND_LOOKS];
+    size_t all = blocks(record, len);
+    uint8_t no = cakirotu_size(record, len, 0, all, sizes, CAKIROTU_SIZES_AND_LOOKS);
+    if (no == CAKIROTU_LISTED) {
+        printf("looks=%" PRIu64 " blocks=%zu edges=%zu\n", sizes[CAKIROTU_LOOKS], all, edges(record, len));
     }
-    size_t len;
-    uint8_t *bytes = read_file(argv[rows || back ? 2 : 1], back ? MOST_ROWS : MOST, &len);
+    return no;
+}
+
+/* The listing of a record's range or of rows, printed as it is or as rows. */
+static uint8_t print_listing(const uint8_t *bytes, size_t len, size_t from, size_t to, int rows, int back) {
     struct listing l;
-    uint8_t no;
-    if (back) {
-        no = read_rows(bytes, len, &l);
-    } else {
-        size_t from = argc == 4 ? (size_t)strtoull(argv[2], NULL, 10) : 0;
-        size_t to = argc == 4 ? (size_t)strtoull(argv[3], NULL, 10) : blocks(bytes, len);
-        no = list(bytes, len, from, to, &l);
-    }
+    uint8_t no = back ? read_rows(bytes, len, &l) : list(bytes, len, from, to, &l);
     if (no == CAKIROTU_LISTED && rows) {
         no = print_rows(&l);
     } else if (no == CAKIROTU_LISTED) {
         print(&l);
     }
+    give_back(&l);
+    return no;
+}
+
+int main(int argc, char **argv) {
+    int rows = argc == 3 && strcmp(argv[1], "rows") == 0;
+    int back = argc == 3 && strcmp(argv[1], "back") == 0;
+    int looks = argc == 3 && strcmp(argv[1], "looks") == 0;
+    if (argc != 2 && argc != 4 && !rows && !back && !looks) {
+        fputs("usage: example FILE [FROM TO], example rows FILE, example back FILE, example looks FILE\n", stderr);
+        return 2;
+    }
+    size_t len;
+    uint8_t *bytes = read_file(argv[argc == 3 ? 2 : 1], back ? MOST_ROWS : MOST, &len);
+    size_t from = argc == 4 ? (size_t)strtoull(argv[2], NULL, 10) : 0;
+    size_t to = argc == 4 ? (size_t)strtoull(argv[3], NULL, 10) : blocks(bytes, len);
+    uint8_t no = looks ? print_looks(bytes, len) : print_listing(bytes, len, from, to, rows, back);
     if (no != CAKIROTU_LISTED) {
         printf("no %d\n", no);
     }
-    give_back(&l);
     free(bytes);
     if (fflush(stdout) != 0) {
         fputs("example: standard output cannot be written\n", stderr);

@@ -17,15 +17,17 @@ static void written(const struct lists *l, const uint64_t *sizes, size_t n, size
     free(out);
 }
 
-/* Nothing at all: NULL for everything. */
+/* Nothing at all: NULL for everything. An entry for looks stays as it was. */
 static void test_null(void) {
     struct lists none = lend(NONE);
-    uint64_t sizes[CAKIROTU_SIZES] = {7, 7, 7}, size = 7;
+    uint64_t sizes[CAKIROTU_SIZES_AND_LOOKS] = {7, 7, 7, 7}, size = 7;
     CHECK(write_rows(&none, NULL, 0, NULL, 0, NULL, 0) == CAKIROTU_LISTED);
     CHECK(write_rows(&none, NULL, 0, NULL, 0, &size, 1) == CAKIROTU_LISTED && size == 0);
     CHECK(read_rows(NULL, 0, &none, NULL, 0) == CAKIROTU_LISTED);
-    CHECK(read_rows(NULL, 0, &none, sizes, CAKIROTU_SIZES) == CAKIROTU_LISTED);
-    CHECK(sizes[0] == 0 && sizes[1] == 0 && sizes[2] == 0);
+    CHECK(read_rows(NULL, 0, &none, sizes, CAKIROTU_SIZES_AND_LOOKS) == CAKIROTU_LISTED);
+    CHECK(sizes[0] == 0 && sizes[1] == 0 && sizes[2] == 0 && sizes[CAKIROTU_LOOKS] == 7);
+    CHECK(read_rows(ROWS, ROWS_LEN, &none, sizes, CAKIROTU_SIZES_AND_LOOKS) == CAKIROTU_NO_TEXT_ROOM);
+    CHECK(sizes[0] == 0 && sizes[1] == 0 && sizes[2] == 0 && sizes[CAKIROTU_LOOKS] == 7);
     CHECK(read_rows(ROWS, ROWS_LEN, &none, NULL, 0) == CAKIROTU_NO_TEXT_ROOM);
     CHECK(read_rows(ROWS + 1, ROWS_LEN - 1, &none, NULL, 0) == CAKIROTU_NO_ROWS);
     sizes[CAKIROTU_LINES] = 1;
@@ -196,15 +198,17 @@ static int both_ways(const uint8_t *rec, size_t len) {
     return 1;
 }
 
-/* The record of a file, which the example's rows are written of if it is the first one. */
+/* The record of a file, which the example's rows are written of if it is the first one, also with the looks behind the sizes. */
 static int test_record(const char *name, int first) {
     static uint8_t rec[MOST_RECORD];
     size_t len = read_record(name, rec);
     if (first) {
-        uint64_t sizes[CAKIROTU_SIZES];
+        uint64_t sizes[CAKIROTU_SIZES_AND_LOOKS];
         struct lists l = read_example(sizes);
-        CHECK(list(rec, len, 0, 3, &l, sizes, CAKIROTU_SIZES) == CAKIROTU_LISTED);
+        CHECK(list(rec, len, 0, 3, &l, sizes, CAKIROTU_SIZES_AND_LOOKS) == CAKIROTU_LISTED);
+        CHECK(sizes[CAKIROTU_LOOKS] > 0);
         written(&l, sizes, CAKIROTU_SIZES, ROWS_LEN, CAKIROTU_LISTED, ROWS, ROWS_LEN);
+        written(&l, sizes, CAKIROTU_SIZES_AND_LOOKS, ROWS_LEN, CAKIROTU_LISTED, ROWS, ROWS_LEN);
         give_back(&l);
     }
     return both_ways(rec, len);

@@ -1,6 +1,6 @@
 //! The six functions of libabi.a. All unsafe code is here.
 
-use crate::{Blocks, Held, Lists, Names, Refusal, Sizes, TableLists};
+use crate::{Blocks, Held, Listed, Lists, Names, Refusal, Sizes, TableLists};
 
 #[cfg(not(target_arch = "x86_64"))]
 compile_error!("libabi.a is for x86-64 alone");
@@ -117,18 +117,18 @@ extern "C" {
     ) -> u8;
 }
 
-/// What no call leaves: every call writes its sizes, values or counts.
-const UNWRITTEN: [u64; 3] = [u64::MAX; 3];
+/// What no call leaves: every call writes its sizes, looks, values or counts.
+const UNWRITTEN: u64 = u64::MAX;
 
-pub fn size(record: &[u8], blocks: Blocks) -> Result<Sizes, Refusal> {
-    let mut sizes = UNWRITTEN;
+pub fn size(record: &[u8], blocks: Blocks) -> Result<Listed, Refusal> {
+    let mut sizes = [UNWRITTEN; 4];
     // The function is total: it reads the record alone and stores into the sizes alone.
     let no = unsafe { cakirotu_size(record.as_ptr(), record.len(), blocks.from, blocks.to, sizes.as_mut_ptr(), sizes.len()) };
-    answer(no, sizes)
+    listed(no, sizes)
 }
 
-pub fn list(record: &[u8], blocks: Blocks, l: &mut Lists<'_>) -> Result<Sizes, Refusal> {
-    let mut sizes = UNWRITTEN;
+pub fn list(record: &[u8], blocks: Blocks, l: &mut Lists<'_>) -> Result<Listed, Refusal> {
+    let mut sizes = [UNWRITTEN; 4];
     // The function is total: it reads the record alone and stores nothing past the lists, which as `&mut` are all apart.
     let no = unsafe {
         cakirotu_list(
@@ -154,12 +154,12 @@ pub fn list(record: &[u8], blocks: Blocks, l: &mut Lists<'_>) -> Result<Sizes, R
             sizes.len(),
         )
     };
-    answer(no, sizes)
+    listed(no, sizes)
 }
 
 pub fn write_rows(l: &Held<'_>, sizes: Sizes, out: &mut [u8]) -> Result<usize, Refusal> {
     let sizes = numbers(sizes);
-    let mut size = [u64::MAX];
+    let mut size = [UNWRITTEN];
     // The function is total: it reads the lists and the sizes alone and stores nothing past `out` and the size, which as `&mut` are apart.
     let no = unsafe {
         cakirotu_write_rows(
@@ -189,7 +189,7 @@ pub fn write_rows(l: &Held<'_>, sizes: Sizes, out: &mut [u8]) -> Result<usize, R
 }
 
 pub fn read_rows(file: &[u8], l: &mut Lists<'_>) -> Result<Sizes, Refusal> {
-    let mut sizes = UNWRITTEN;
+    let mut sizes = [UNWRITTEN; 3];
     // The function is total: it reads the file alone and stores nothing past the lists, which as `&mut` are all apart.
     let no = unsafe {
         cakirotu_read_rows(
@@ -218,7 +218,7 @@ pub fn read_rows(file: &[u8], l: &mut Lists<'_>) -> Result<Sizes, Refusal> {
 
 /// How many bytes the string has, whether it was wide, whether it was cut.
 pub fn read_literal(kind: u8, text: &[u8], out: &mut [u8]) -> Result<[usize; 3], Refusal> {
-    let mut values = UNWRITTEN;
+    let mut values = [UNWRITTEN; 3];
     // The function is total: it reads the text alone and stores nothing past `out` and the values, which as `&mut` are apart.
     let no = unsafe {
         cakirotu_read_literal(kind, text.as_ptr(), text.len(), out.as_mut_ptr(), out.len(), values.as_mut_ptr(), values.len())
@@ -229,7 +229,7 @@ pub fn read_literal(kind: u8, text: &[u8], out: &mut [u8]) -> Result<[usize; 3],
 /// How many bytes and rows the table has.
 pub fn command_table(l: &Held<'_>, sizes: Sizes, names: Names<'_>, table: &mut TableLists<'_>) -> Result<[usize; 2], Refusal> {
     let sizes = numbers(sizes);
-    let mut counts = [u64::MAX; 2];
+    let mut counts = [UNWRITTEN; 2];
     // The function is total: it reads the lists, the sizes and the names alone and stores nothing past the table's lists and the counts, which as
     // `&mut` are all apart.
     let no = unsafe {
@@ -273,6 +273,11 @@ fn numbers(sizes: Sizes) -> [u64; 3] {
 
 fn answer(no: u8, sizes: [u64; 3]) -> Result<Sizes, Refusal> {
     checked(no, sizes).map(|[text, tokens, lines]| Sizes { text, tokens, lines })
+}
+
+/// The sizes, and behind them the looks.
+fn listed(no: u8, sizes: [u64; 4]) -> Result<Listed, Refusal> {
+    checked(no, sizes).map(|[text, tokens, lines, _]| Listed { sizes: Sizes { text, tokens, lines }, looks: sizes[3] })
 }
 
 /// Panics on an answer that the library does not give: then another one is linked.

@@ -2,10 +2,11 @@
 //! literal in a listing, and makes a listing's command table for a keyer, by Cakirotu's proved library.
 //!
 //! Any bytes may be lent as a record: every call ends with a listing or a [`Refusal`]. [`list`] allocates a [`Listing`] of just
-//! the size needed; [`size`] and [`list_into`] allocate nothing and work on lists that the caller lends. [`write_rows`] and [`read_rows`]
-//! turn a listing into rows and back, [`write_rows_into`] and [`read_rows_into`] on what the caller lends. [`read_literal`] gives the bytes of a
-//! string, [`read_literal_into`] in a list that the caller lends; so do [`command_table`] and [`command_table_into`] with the bytes that a register
-//! is set to before each call by a name.
+//! the size needed; [`size`] and [`list_into`] allocate nothing and work on lists that the caller lends. All three also tell how much
+//! looking the listing took ([`Listed::looks`]). [`write_rows`] and [`read_rows`] turn a listing into rows and back, [`write_rows_into`]
+//! and [`read_rows_into`] on what the caller lends. [`read_literal`] gives the bytes of a string, [`read_literal_into`] in a list that
+//! the caller lends; so do [`command_table`] and [`command_table_into`] with the bytes that a register is set to before each call by a
+//! name.
 //!
 //! ```
 //! let record = std::fs::read("no such file").unwrap_or_default();
@@ -37,6 +38,15 @@ pub struct Sizes {
     pub text: usize,
     pub tokens: usize,
     pub lines: usize,
+}
+
+/// What a call for a listing answers.
+#[derive(Clone, Copy, Debug, Default, PartialEq, Eq, Hash)]
+pub struct Listed {
+    pub sizes: Sizes,
+    /// How many edges were read to find loops, if-regions and labels, each as often as it was read: at most 5 for each block of the range and edge
+    /// of the record. It depends on the record and the range alone.
+    pub looks: u64,
 }
 
 /// Places of blocks in a record's order, the last one not included: made from `from..to` or `(from, to)`.
@@ -100,14 +110,14 @@ impl Lists<'_> {
     }
 }
 
-/// How long the listing of some blocks is: lists of just these lengths suffice. A refusal is none of 12 to 14.
-pub fn size(record: &[u8], blocks: impl Into<Blocks>) -> Result<Sizes, Refusal> {
+/// How long the listing of some blocks is, and how much looking it takes: lists of just these lengths suffice. A refusal is none of 12 to 14.
+pub fn size(record: &[u8], blocks: impl Into<Blocks>) -> Result<Listed, Refusal> {
     ffi::size(record, blocks.into())
 }
 
-/// Lists some blocks into lists that the caller lends, and says how far it filled them. Entries past the sizes stay as they were;
-/// if the call is refused, all of them do.
-pub fn list_into(record: &[u8], blocks: impl Into<Blocks>, lists: &mut Lists<'_>) -> Result<Sizes, Refusal> {
+/// Lists some blocks into lists that the caller lends, and says how far it filled them and how much looking it took. Entries past the sizes stay
+/// as they were; if the call is refused, all of them do.
+pub fn list_into(record: &[u8], blocks: impl Into<Blocks>, lists: &mut Lists<'_>) -> Result<Listed, Refusal> {
     ffi::list(record, blocks.into(), lists)
 }
 
@@ -115,14 +125,14 @@ pub fn list_into(record: &[u8], blocks: impl Into<Blocks>, lists: &mut Lists<'_>
 /// nothing.
 pub fn list(record: &[u8], blocks: impl Into<Blocks>) -> Result<Listing, Refusal> {
     let blocks = blocks.into();
-    let sizes = size(record, blocks)?;
-    let mut listing = Listing::room(sizes);
-    list_into(record, blocks, &mut listing.lists())?;
+    let mut listing = Listing::room(size(record, blocks)?.sizes);
+    let listed = list_into(record, blocks, &mut listing.lists())?;
+    listing.looks = Some(listed.looks);
     Ok(listing)
 }
 
-/// A listing that owns its lists. They cannot be changed, so that they always hold together.
-#[derive(Clone, Debug, PartialEq, Eq)]
+/// A listing that owns its lists. They cannot be changed, so that they always hold together. Listings are equal if their lists are.
+#[derive(Clone, Debug)]
 pub struct Listing {
     text: Box<[u8]>,
     ends: Box<[u32]>,
@@ -131,7 +141,16 @@ pub struct Listing {
     marks: Box<[u16]>,
     places: Box<[u16]>,
     lines: Box<[u32]>,
+    looks: Option<u64>,
 }
+
+impl PartialEq for Listing {
+    fn eq(&self, other: &Listing) -> bool {
+        self.view().held() == other.view().held()
+    }
+}
+
+impl Eq for Listing {}
 
 impl Listing {
     fn room(sizes: Sizes) -> Listing {
@@ -143,6 +162,7 @@ impl Listing {
             marks: vec![0; sizes.lines].into(),
             places: vec![0; sizes.lines].into(),
             lines: vec![0; sizes.lines].into(),
+            looks: None,
         }
     }
 
@@ -171,11 +191,17 @@ impl Listing {
             marks: first(&self.marks, sizes.lines),
             places: first(&self.places, sizes.lines),
             lines: first(&self.lines, sizes.lines),
+            looks: self.looks,
         }
     }
 
     pub fn sizes(&self) -> Sizes {
         Sizes { text: self.text.len(), tokens: self.ends.len(), lines: self.lines.len() }
+    }
+
+    /// How much looking it took, as [`Listed::looks`]; none of a listing that was read from rows, which do not carry it.
+    pub fn looks(&self) -> Option<u64> {
+        self.looks
     }
 
     /// The listing line by line.

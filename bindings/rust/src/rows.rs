@@ -3,7 +3,7 @@
 use crate::{ffi, Listing, Lists, Refusal, Sizes, View};
 
 /// Seven lists that [`write_rows_into`] reads, as [`Lists`] has them.
-#[derive(Clone, Copy, Debug, Default)]
+#[derive(Clone, Copy, Debug, Default, PartialEq, Eq)]
 pub struct Held<'a> {
     pub text: &'a [u8],
     pub ends: &'a [u32],

@@ -2,7 +2,7 @@
 
 mod common;
 
-use cakirotu::{list, list_into, size, Kind, Lists, Refusal, Sizes, View};
+use cakirotu::{list, list_into, size, Kind, Listed, Lists, Refusal, Sizes, View};
 use common::{exact, example, nest, Lent};
 
 /// A line's address, indent, place and text.
@@ -37,20 +37,64 @@ fn document_01s_example() {
     assert_eq!(tokens, want);
 }
 
+/// The sizes of the example.
+fn sizes() -> Sizes {
+    size(&example(), 0..3).unwrap().sizes
+}
+
+/// What a call for all of the example answers: bindings/c/test.c has its looks counted by hand.
+fn whole() -> Listed {
+    Listed { sizes: sizes(), looks: 7 }
+}
+
 #[test]
 fn exact_fit_passes() {
-    let sizes = size(&example(), 0..3).unwrap();
-    let mut lent = Lent::new(exact(sizes));
-    assert_eq!(list_into(&example(), 0..3, &mut lent.lists()), Ok(sizes));
-    assert_eq!(lines_of(lent.lists().view(sizes).unwrap()), expected());
+    let mut lent = Lent::new(exact(sizes()));
+    assert_eq!(list_into(&example(), 0..3, &mut lent.lists()), Ok(whole()));
+    assert_eq!(lines_of(lent.lists().view(sizes()).unwrap()), expected());
+}
+
+/// The looks of a range, by each call.
+fn looks_of(record: &[u8], from: usize, to: usize) -> u64 {
+    let listing = list(record, from..to).unwrap();
+    let mut lent = Lent::new(exact(listing.sizes()));
+    let listed = list_into(record, from..to, &mut lent.lists()).unwrap();
+    assert_eq!(listed, Listed { sizes: listing.sizes(), looks: listing.looks().unwrap() });
+    assert_eq!(size(record, from..to), Ok(listed));
+    listed.looks
+}
+
+#[test]
+fn looks_of_the_example() {
+    assert_eq!(size(&example(), 0..3), Ok(whole()));
+    let parts = [(0, 3), (0, 2), (0, 1), (1, 3), (1, 2), (2, 3), (0, 0), (3, 3)];
+    assert_eq!(parts.map(|(from, to)| looks_of(&example(), from, to)), [7, 7, 2, 1, 1, 1, 0, 0]);
+}
+
+/// A block n below 198 opens a region: its search reads the two edges of each block from n to 198, its entry test those of blocks 0 to n, its
+/// escape test those of blocks n + 1 to 198. The branch of block 198 has nothing to skip, and its search reads two.
+#[test]
+fn looks_of_the_deepest_nest() {
+    let opened: u64 = (0..198).map(|n| 2 * (199 - n) + 2 * (n + 1) + 2 * (198 - n)).sum();
+    assert_eq!(looks_of(&nest(), 0, 200), opened + 2);
+    assert!(opened > u64::from(u16::MAX));
+}
+
+/// Rows do not carry looks, and a listing is the same without.
+#[test]
+fn rows_have_no_looks() {
+    let listing = list(&example(), 0..3).unwrap();
+    let back = cakirotu::read_rows(&cakirotu::write_rows(listing.view()).unwrap()).unwrap();
+    assert_eq!((back.looks(), listing.looks()), (None, Some(7)));
+    assert_eq!(back, listing);
+    assert_ne!(back, list(&example(), 0..2).unwrap());
 }
 
 #[test]
 fn one_too_short_is_refused_and_changes_nothing() {
-    let sizes = size(&example(), 0..3).unwrap();
     let numbers = [12, 13, 13, 14, 14, 14, 14];
     for (which, number) in numbers.into_iter().enumerate() {
-        let mut lengths = exact(sizes);
+        let mut lengths = exact(sizes());
         lengths[which] -= 1;
         let lent = Lent::new(lengths);
         let mut left = lent.clone();
@@ -61,12 +105,11 @@ fn one_too_short_is_refused_and_changes_nothing() {
 
 #[test]
 fn entries_past_the_sizes_stay() {
-    let sizes = size(&example(), 0..3).unwrap();
-    let fit = exact(sizes);
+    let fit = exact(sizes());
     let more = [3, 1, 2, 4, 1, 3, 2];
     let mut left = Lent::new(std::array::from_fn(|n| fit[n] + more[n]));
-    assert_eq!(list_into(&example(), 0..3, &mut left.lists()), Ok(sizes));
-    assert_eq!(lines_of(left.lists().view(sizes).unwrap()), expected());
+    assert_eq!(list_into(&example(), 0..3, &mut left.lists()), Ok(whole()));
+    assert_eq!(lines_of(left.lists().view(sizes()).unwrap()), expected());
     assert_eq!(left.text.split_off(fit[0]), [0xee; 3]);
     assert_eq!(left.ends.split_off(fit[1]), [0xeeee_eeee; 1]);
     assert_eq!(left.kinds.split_off(fit[2]), [0xee; 2]);
@@ -79,8 +122,8 @@ fn entries_past_the_sizes_stay() {
 #[test]
 fn empty_ranges_list_nothing() {
     for at in 0..=3 {
-        assert_eq!(size(&example(), at..at), Ok(Sizes::default()));
-        assert_eq!(list_into(&example(), at..at, &mut Lists::default()), Ok(Sizes::default()));
+        assert_eq!(size(&example(), at..at), Ok(Listed::default()));
+        assert_eq!(list_into(&example(), at..at, &mut Lists::default()), Ok(Listed::default()));
         let listing = list(&example(), (at, at)).unwrap();
         assert_eq!(listing.view().lines().count(), 0);
         assert_eq!(listing.sizes(), Sizes::default());
@@ -128,7 +171,7 @@ const STACK: usize = 256 * 1024;
 /// Sizes of another call, or lists that were changed, give no view.
 #[test]
 fn a_view_needs_lists_that_hold_together() {
-    let sizes = size(&example(), 0..3).unwrap();
+    let sizes = sizes();
     let mut lent = Lent::new(exact(sizes));
     list_into(&example(), 0..3, &mut lent.lists()).unwrap();
     let wrong = [

@@ -2,7 +2,7 @@
 
 mod common;
 
-use cakirotu::{list, list_into, size, Blocks, Refusal};
+use cakirotu::{list, list_into, size, Blocks, Listed, Refusal};
 use common::{example, example_with_atlas, Lent, BODIES, BODY, EDGE_KINDS, EDGE_TARGETS, MARKS, STARTS};
 
 /// All three calls refuse with this number, and no list is changed.
@@ -126,13 +126,13 @@ fn damaged_records() {
 /// The number that all calls answer for blocks 0 to 3, or 0.
 fn agreed(record: &[u8]) -> u8 {
     let listing = list(record, 0..3);
-    let sizes = listing.as_ref().map(|l| l.sizes()).map_err(|no| *no);
-    assert_eq!(size(record, (0, 3)), sizes);
+    let answer = listing.map(|l| Listed { sizes: l.sizes(), looks: l.looks().unwrap() });
+    assert_eq!(size(record, (0, 3)), answer);
     let lent = Lent::new([4096; 7]);
     let mut left = lent.clone();
-    assert_eq!(list_into(record, (0, 3), &mut left.lists()), sizes);
-    match sizes {
-        Ok(sizes) => {
+    assert_eq!(list_into(record, (0, 3), &mut left.lists()), answer);
+    match answer {
+        Ok(Listed { sizes, .. }) => {
             assert_eq!(left.lists().view(sizes).map(|view| view.lines().len()), Some(sizes.lines));
             0
         }

@@ -3,7 +3,7 @@
 
 mod common;
 
-use cakirotu::{Kind, Literal, Refusal, Sizes};
+use cakirotu::{Kind, Listed, Literal, Refusal, Sizes};
 use common::Lent;
 
 /// A stored call.
@@ -74,12 +74,18 @@ fn every_stored_call_answers_and_leaves_what_was_stored() {
         let mut lent = Lent::new(case.lengths);
         let answer = cakirotu::list_into(&case.record, case.range, &mut lent.lists());
         let stored = Refusal::from_number(case.no).map_or(Ok(case.sizes), Err);
-        assert_eq!(answer, stored, "case {n}");
+        assert_eq!(answer.map(|listed| listed.sizes), stored, "case {n}");
         assert_eq!(sums(&lent), case.sums, "case {n}");
         seen[usize::from(case.no)] += 1;
     }
     assert_eq!(seen.iter().sum::<usize>(), 300);
     assert!(seen.iter().all(|count| *count > 0), "a number is missing: {seen:?}");
+}
+
+/// Five for each block of the range and edge of the record.
+fn most_looks(case: &Case) -> u64 {
+    let edges = u16::from_le_bytes([case.record[8], case.record[9]]);
+    5 * (case.range.1 - case.range.0) as u64 * u64::from(edges)
 }
 
 /// `size` and `list` do not ask 12 to 14, and agree with the stored call.
@@ -88,15 +94,17 @@ fn size_and_list_agree_with_every_stored_call() {
     for (n, case) in cases().iter().enumerate() {
         let size = cakirotu::size(&case.record, case.range);
         let list = cakirotu::list(&case.record, case.range.0..case.range.1);
-        assert_eq!(list.as_ref().map(|listing| listing.sizes()), size.as_ref().copied(), "case {n}");
+        let answer = list.as_ref().map(|listing| Listed { sizes: listing.sizes(), looks: listing.looks().unwrap() });
+        assert_eq!(answer, size.as_ref().copied(), "case {n}");
         match case.no {
-            0 => assert_eq!(size, Ok(case.sizes), "case {n}"),
+            0 => assert_eq!(size.unwrap().sizes, case.sizes, "case {n}"),
             12..=14 => assert!(size.is_ok(), "case {n}"),
             _ => assert_eq!(size.unwrap_err().number(), case.no, "case {n}"),
         }
         let Ok(listing) = list else { continue };
+        assert!(listing.looks() <= Some(most_looks(case)), "case {n}");
         let mut lent = Lent::new(common::exact(listing.sizes()));
-        assert_eq!(cakirotu::list_into(&case.record, case.range, &mut lent.lists()), Ok(listing.sizes()));
+        assert_eq!(cakirotu::list_into(&case.record, case.range, &mut lent.lists()), size);
         let view = lent.lists().view(listing.sizes()).map(|view| view.text().to_vec());
         assert_eq!(view.as_deref(), Some(listing.view().text()), "case {n}");
         assert!(

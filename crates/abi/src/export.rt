@@ -1,5 +1,5 @@
 // The call over numbers and lists, as C has them.
-use crate::sizes::put_answer;
+use crate::sizes::put_answered;
 use pseudo::call::list;
 use pseudo::size::size;
 ghost use Rattle.rows.specs.Lists.{listsOf};
@@ -26,7 +26,7 @@ pub extern "C" fn cakirotu_list(
         (listsOf (now (text .exit)) (now (ends .exit)) (now (kinds .exit)) (now (addresses .exit)) (now (marks .exit)) (now (places .exit)) (now (lines .exit)))
         (now (sizes .entry)) (now (sizes .exit)) r ⌝ }
 {
-    let answer = list(
+    let answered = list(
         rec,
         from,
         to,
@@ -38,14 +38,14 @@ pub extern "C" fn cakirotu_list(
         places,
         lines,
     );
-    put_answer(sizes, answer)
+    put_answered(sizes, answered)
 }
 
-// The sizes of the listing of the blocks from `from` up to `to`: answers 0, or the number of the first question before 12 that gets a
+// The sizes and the looks of the listing of the blocks from `from` up to `to`: answers 0, or the number of the first question before 12 that gets a
 // no. Nothing is demanded of the caller.
 #[no_mangle]
 pub extern "C" fn cakirotu_size(rec: &[u8], from: usize, to: usize, sizes: &mut [u64]) -> u8
     ensures { λ r. ⌜ Sized (now (rec .entry)) from to (now (sizes .entry)) (now (sizes .exit)) r ⌝ }
 {
-    put_answer(sizes, size(rec, from, to))
+    put_answered(sizes, size(rec, from, to))
 }

@@ -1,11 +1,12 @@
-// The answers beside a number, three numbers in a list, as C has them.
+// The answers beside a number, in a list, as C has them.
 use lists::stores::store_u64;
+use pseudo::answered::Answered;
 use rows::answer::Answer;
 ghost use mathlib.Core.List.{[], _∷_};
 ghost use mathlib.Core.Path.{_≡_};
 ghost use Rattle.lists.specs.Put.{put};
 ghost use Rattle.rows.specs.Lists.{numberOf};
-ghost use Rattle.abi.specs.Exported.{sizeList};
+ghost use Rattle.abi.specs.Exported.{sizeList, answerList};
 
 // Three numbers from the start of the list on.
 pub fn put_three(list: &mut [u64], a: u64, b: u64, c: u64)
@@ -31,4 +32,15 @@ pub fn put_answer(sizes: &mut [u64], answer: Answer) -> u8
             n
         }
     }
+}
+
+// The sizes and behind them the looks; answers the number.
+pub fn put_answered(sizes: &mut [u64], r: Answered) -> u8
+    ensures number { λ n. ⌜ n ≡ numberOf (r .answer) ⌝ }
+    ensures sizes { λ _. ⌜ now (sizes .exit) ≡ put 0 (answerList (r .answer) (r .looks)) (now (sizes .entry)) ⌝ }
+{
+    let answer = r.answer;
+    let number = put_answer(sizes, answer);
+    store_u64(sizes, 3, r.looks);
+    number
 }

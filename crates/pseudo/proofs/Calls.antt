@@ -3,7 +3,7 @@
 use mathlib.Core.Path.{_≡_, refl, sym, ap, _∙_}
 use mathlib.Core.Bool.{Bool, true, false}
 use mathlib.Core.List.{List, [], _∷_, map}
-use Prim.Native.Nat.{ℕ, zero, suc, _+_, _*_, _^_, _≤_, _<_}
+use Prim.Native.Nat.{ℕ, zero, suc, _+_, _-_, _*_, _^_, _≤_, _<_}
 use native.Mathlib.Nat.{not-suc-le-zero}
 use native.Mathlib.Omega.{arith}
 use lib.IntN.{natAbs}
@@ -29,7 +29,7 @@ use Rattle.flow.proofs.Laws.{filled}
 use Rattle.flow.specs.Counted.{Counted, Plannable}
 use Rattle.flow.proofs.Totals.{marks-counted, limits-small}
 use Rattle.flow.proofs.Turned.{plannable}
-use Rattle.flow.specs.Planned.{recordPlan, recordCodes}
+use Rattle.flow.specs.Planned.{recordPlan, recordCodes, recordLooks}
 use Rattle.flow.proofs.Bounds.{record-placed, record-few, record-within, record-shallow}
 use Rattle.line.specs.Fits.{Fits}
 use Rattle.line.proofs.Longest.{printed-fits}
@@ -38,7 +38,7 @@ use Rattle.line.specs.Print.{printed}
 use Rattle.record.proofs.AskedLaws.{yes-limits, yes-marks, yes-range}
 use Rattle.pseudo.specs.Listed.{planLists, recordLines}
 use Rattle.pseudo.specs.Marks.{Indented}
-use Rattle.pseudo.specs.Called.{Accepted, PlanListed, callNo, Called, sizes}
+use Rattle.pseudo.specs.Called.{Accepted, PlanListed, callNo, Called, sizes, looksOf, LooksCounted}
 use Rattle.rows.specs.declared.answer.Sizes.{Sizes}
 use Rattle.rows.specs.declared.answer.Answer.{Answer}
 use Rattle.rows.specs.declared.answer.Answer.the-variants.{Listed, No}
@@ -84,6 +84,11 @@ module _ (s : List ℕ) (from to : ℕ) (h : Header) (a : Accepted s from to h) 
   unfolding put
   codes-are zeros plan codes n z p q =
       filled (recordCodes h s from to) zeros plan codes n n (omega (arith, p .next)) (omega (arith, p .next, length-map (recordPlan h s from to) codeOf, record-within h s from to counted in-range, z)) refl (p .list) q
+
+  -- an answer carries the planner's looks, none with a number
+  pub looks-carried : (r : Answer) (n looks : ℕ) → (n ≡ recordLooks h s from to) × (n ≤ 5 * (to - from) * h .edges) → looks ≡ looksOf n r → LooksCounted s from to r looks
+  looks-carried (Listed z) n looks p e = record { counted = rw (← a .header) (e ∙ p .0); few = rw (e, ← a .header) (p .1) }
+  looks-carried (No k) n looks p e = record { counted = e; few = omega (arith, e) }
 
   module _ (codes : List ℕ) (e : codes ≡ recordCodes h s from to) where
     pub lines-are : map lineIn codes ≡ recordPlan h s from to
@@ -154,3 +159,6 @@ called-no s from to n b q = go (firstNo s from to) refl q
     go : (f : ℕ) → firstNo s from to ≡ f → case.No n ≡ answerOf f (headerOf s) → Called s from to b b (No n)
     go zero p q = different (sym (ap isYes q))
     go (suc f) p q = rw (p, ap numberIn q) (refused (suc f) _ b (λ z. omega arith))
+
+pub looks-no : (s : List ℕ) (from to n looks : ℕ) → looks ≡ 0 → LooksCounted s from to (No n) looks
+looks-no s from to n looks e = record { counted = e; few = omega (arith, e) }

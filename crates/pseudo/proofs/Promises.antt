@@ -20,7 +20,7 @@ use Rattle.tokens.specs.Listing.{join, listing}
 use Rattle.pseudo.specs.Listed.{lineAddress, recordLines, recordLists}
 use Rattle.flow.specs.Planned.{recordPlan}
 use Rattle.line.specs.Shown.{ConditionsShown, CallsShown}
-use Rattle.pseudo.specs.Called.{sizes, callNo, Called}
+use Rattle.pseudo.specs.Called.{sizes, callNo, Called, LooksCounted}
 use Rattle.pseudo.specs.Demand.{LinesDemand3}
 use Rattle.pseudo.specs.Loops.{LoopsClose}
 use Rattle.pseudo.specs.Promise.{held, Promise}
@@ -166,8 +166,8 @@ module _ (s : List ℕ) (from to : ℕ) (b a : Lists) (r : Answer) (c : Called s
   unfolding callNo
   accepted e = later (firstNo s from to) (roomNo (sizes s from to) rooms) e .0
 
-  pub promised : Promise s from to b a r
-  promised = record {
+  pub promised : (looks : ℕ) → LooksCounted s from to r looks → Promise s from to b a r looks
+  promised looks counted = record {
     called = c;
     number = rw number (call-within s from to rooms);
     refused = λ o. refused (callNo s from to rooms) c (λ e. o (number ∙ e));
@@ -176,4 +176,5 @@ module _ (s : List ℕ) (from to : ℕ) (b a : Lists) (r : Answer) (c : Called s
     loops = λ e. loops-held (callNo s from to rooms) c (sym number ∙ e) (accepted (sym number ∙ e));
     demand3 = λ e. listed (callNo s from to rooms) c (sym number ∙ e) (accepted (sym number ∙ e));
     rows = λ e. rows-left (callNo s from to rooms) c (sym number ∙ e) (accepted (sym number ∙ e));
+    looked = counted;
   }

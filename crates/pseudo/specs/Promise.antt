@@ -1,4 +1,4 @@
--- What a call promises, demand by demand, of what its caller holds: the record's bytes, the lists before and after, and the answer.
+-- What a call promises, demand by demand, of what its caller holds: the record's bytes, the lists before and after, the answer and its looks.
 use Prim.Native.Nat.{ℕ, _≤_}
 use mathlib.Core.Bool.{true}
 use mathlib.Core.List.{List}
@@ -12,7 +12,7 @@ use Rattle.rows.specs.declared.answer.Answer.{Answer}
 use Rattle.record.specs.Header.{headerOf}
 use Rattle.flow.specs.Planned.{recordPlan}
 use Rattle.line.specs.Shown.{ConditionsShown, CallsShown}
-use Rattle.pseudo.specs.Called.{Called}
+use Rattle.pseudo.specs.Called.{Called, LooksCounted}
 use Rattle.pseudo.specs.Demand.{LinesDemand3}
 use Rattle.pseudo.specs.Loops.{LoopsClose}
 
@@ -20,7 +20,7 @@ use Rattle.pseudo.specs.Loops.{LoopsClose}
 abbrev pub held : Lists → Answer → List (List Token)
 held a r = linesIn (a .text) (a .ends) (a .kinds) (a .lines) (valuesOf r .lines)
 
-pub record Promise (s : List ℕ) (from to : ℕ) (b a : Lists) (r : Answer) : Type 0 where
+pub record Promise (s : List ℕ) (from to : ℕ) (b a : Lists) (r : Answer) (looks : ℕ) : Type 0 where
   -- the number is that of the first question that gets a no, the sizes are the defined listing's, and each list begins with it and is
   -- unchanged past it
   pub called : Called s from to b a r
@@ -41,3 +41,5 @@ pub record Promise (s : List ℕ) (from to : ℕ) (b a : Lists) (r : Answer) : T
       (take (valuesOf r .lines) (a .lines))
   -- #102: every listing can be written as rows, "lines of at least one token, no token empty, indents up to 254"
   pub rows : numberOf r ≡ 0 → holdsRows a (valuesOf r .text) (valuesOf r .tokens) (valuesOf r .lines) ≡ true
+  -- #111: "The answer carries the count, equal to the definition's."
+  pub looked : LooksCounted s from to r looks

@@ -1,4 +1,6 @@
 // The call that lists a range.
+use crate::answered::Answered;
+use crate::answered::with_looks;
 use crate::coding::code_plan;
 use crate::marks::put_marks;
 use crate::writing::write_plan;
@@ -31,7 +33,7 @@ ghost use Rattle.line.specs.Lines.{lineIn};
 ghost use Rattle.line.specs.Print.{printed};
 ghost use Rattle.line.specs.Fits.{Fits};
 ghost use Rattle.pseudo.specs.Marks.{Indented};
-ghost use Rattle.pseudo.specs.Called.{PlanListed, Accepted, Called};
+ghost use Rattle.pseudo.specs.Called.{PlanListed, Accepted, Called, LooksCounted};
 ghost use Rattle.pseudo.specs.Promise.{Promise};
 
 // The listing of a plan by way of its codes, if the lists have room for it: no list but that of the codes is touched before they are asked.
@@ -196,20 +198,21 @@ fn list_planned(
     blocks: &[u16],
     from: u16,
     to: u16,
-) -> Answer
+) -> Answered
     requires { ⌜ (now tables ≡ tableBytes) × Rising h (now rec) ⌝ }
     requires { ⌜ now rows ≡ rowBytes ⌝ }
     requires { ⌜ now blocks ≡ blockRows h (now rec) ⌝ }
     requires { ⌜ Accepted (now rec) from to h ⌝ }
     requires { ⌜ h .instructions + 2 * h .blocks ≤ length (now made) ⌝ }
-    ensures { λ r. ⌜ Called (now (rec .entry)) from to
+    ensures lists { λ r. ⌜ Called (now (rec .entry)) from to
         (listsOf (now (text .entry)) (now (ends .entry)) (now (kinds .entry)) (now (addresses .entry)) (now (marks .entry)) (now (places .entry)) (now (lines .entry)))
-        (listsOf (now (text .exit)) (now (ends .exit)) (now (kinds .exit)) (now (addresses .exit)) (now (marks .exit)) (now (places .exit)) (now (lines .exit))) r ⌝ }
+        (listsOf (now (text .exit)) (now (ends .exit)) (now (kinds .exit)) (now (addresses .exit)) (now (marks .exit)) (now (places .exit)) (now (lines .exit))) (r .answer) ⌝ }
+    ensures looks { λ r. ⌜ LooksCounted (now (rec .entry)) from to (r .answer) (r .looks) ⌝ }
 {
     let planned = plan_record(isa_of(tables), rec, h, blocks, from, to, made);
     let plan = part_u64(made, planned.next);
     let range = u16_in(blocks, 8 * size(from));
-    list_plan(
+    let answer = list_plan(
         text,
         ends,
         kinds,
@@ -224,7 +227,8 @@ fn list_planned(
         blocks,
         range,
         plan,
-    )
+    );
+    with_looks(answer, planned.looks)
 }
 
 // The same, with the tables and the blocks' rows made: lists are lent for the rows and the plan.
@@ -242,13 +246,14 @@ fn list_range(
     h: Header,
     from: u16,
     to: u16,
-) -> Answer
+) -> Answered
     requires { ⌜ Accepted (now rec) from to h ⌝ }
     requires { ⌜ 8 * h .blocks ≤ length (now block) ⌝ }
     requires { ⌜ h .instructions + 2 * h .blocks ≤ length (now made) ⌝ }
-    ensures { λ r. ⌜ Called (now (rec .entry)) from to
+    ensures lists { λ r. ⌜ Called (now (rec .entry)) from to
         (listsOf (now (text .entry)) (now (ends .entry)) (now (kinds .entry)) (now (addresses .entry)) (now (marks .entry)) (now (places .entry)) (now (lines .entry)))
-        (listsOf (now (text .exit)) (now (ends .exit)) (now (kinds .exit)) (now (addresses .exit)) (now (marks .exit)) (now (places .exit)) (now (lines .exit))) r ⌝ }
+        (listsOf (now (text .exit)) (now (ends .exit)) (now (kinds .exit)) (now (addresses .exit)) (now (marks .exit)) (now (places .exit)) (now (lines .exit))) (r .answer) ⌝ }
+    ensures looks { λ r. ⌜ LooksCounted (now (rec .entry)) from to (r .answer) (r .looks) ⌝ }
 {
     let table = tables();
     let tables: &[u8] = &table;
@@ -289,11 +294,12 @@ fn list_accepted(
     h: Header,
     from: u16,
     to: u16,
-) -> Answer
+) -> Answered
     requires { ⌜ Accepted (now rec) from to h ⌝ }
-    ensures { λ r. ⌜ Called (now (rec .entry)) from to
+    ensures lists { λ r. ⌜ Called (now (rec .entry)) from to
         (listsOf (now (text .entry)) (now (ends .entry)) (now (kinds .entry)) (now (addresses .entry)) (now (marks .entry)) (now (places .entry)) (now (lines .entry)))
-        (listsOf (now (text .exit)) (now (ends .exit)) (now (kinds .exit)) (now (addresses .exit)) (now (marks .exit)) (now (places .exit)) (now (lines .exit))) r ⌝ }
+        (listsOf (now (text .exit)) (now (ends .exit)) (now (kinds .exit)) (now (addresses .exit)) (now (marks .exit)) (now (places .exit)) (now (lines .exit))) (r .answer) ⌝ }
+    ensures looks { λ r. ⌜ LooksCounted (now (rec .entry)) from to (r .answer) (r .looks) ⌝ }
 {
     if (h.instructions <= 288) & (h.blocks <= 60) {
         let mut block = [0u16; 480];
@@ -345,13 +351,13 @@ pub fn list(
     marks: &mut [u16],
     places: &mut [u16],
     lines: &mut [u32],
-) -> Answer
+) -> Answered
     ensures { λ r. ⌜ Promise (now (rec .entry)) from to
         (listsOf (now (text .entry)) (now (ends .entry)) (now (kinds .entry)) (now (addresses .entry)) (now (marks .entry)) (now (places .entry)) (now (lines .entry)))
-        (listsOf (now (text .exit)) (now (ends .exit)) (now (kinds .exit)) (now (addresses .exit)) (now (marks .exit)) (now (places .exit)) (now (lines .exit))) r ⌝ }
+        (listsOf (now (text .exit)) (now (ends .exit)) (now (kinds .exit)) (now (addresses .exit)) (now (marks .exit)) (now (places .exit)) (now (lines .exit))) (r .answer) (r .looks) ⌝ }
 {
     match record(rec, from, to) {
-        Asked::No(n) => Answer::No(n),
+        Asked::No(n) => with_looks(Answer::No(n), 0),
         Asked::Yes(h) => list_accepted(
             text,
             ends,

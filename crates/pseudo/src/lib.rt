@@ -1,4 +1,5 @@
 // The call: questions, sizes, lists.
+pub mod answered;
 pub mod call;
 pub mod coding;
 pub mod marks;

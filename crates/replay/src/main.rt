@@ -124,7 +124,7 @@ fn replay(
     lines: &mut [u32],
 ) -> bool {
     let rec = part(case, 120, field(case, 0));
-    let answer = list(
+    let listed = list(
         rec,
         u64_at(case, 48) as usize,
         u64_at(case, 56) as usize,
@@ -136,6 +136,7 @@ fn replay(
         places,
         lines,
     );
+    let answer = listed.answer;
     answers(case, answer) & sums(case, text, ends, kinds, addresses, marks, places, lines)
 }
 

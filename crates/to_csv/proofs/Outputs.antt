@@ -65,7 +65,7 @@ no-file [] e = let n : ℕ = 0 in let m : ℕ = 6 in let p : n ≡ m = ap length
 no-file (r ∷ rs) e = no-row (r .addressed) r rs refl e
 
 -- ---- what is printed
-module _ (s : List ℕ) (to : ℕ) (whole : to ≡ headerOf s .blocks) (a : Lists) (g : Answer) (promise : Promise s 0 to lent a g) where
+module _ (s : List ℕ) (to : ℕ) (whole : to ≡ headerOf s .blocks) (a : Lists) (g : Answer) {looks : ℕ} (promise : Promise s 0 to lent a g looks) where
   abbrev called : Called s 0 to lent a g
   called = promise .called
 

@@ -6,6 +6,7 @@ use std::hint::black_box;
 use std::time::{Duration, Instant};
 
 use crate::lists::Lists;
+use crate::looks::totals::Totals;
 use crate::record::Record;
 use crate::rng::Rng;
 use crate::{emitter, gen, port};
@@ -30,13 +31,14 @@ impl Times {
 
 const TURNS: u32 = 5;
 
-/// Prints each set's times, the growth with the number of blocks, and the ratios as the last line.
+/// Prints each set's times and looks, the growth with the number of blocks, and the ratios as the last line.
 pub fn run() -> Result<bool, String> {
     let sets = sets();
     let mut ratios = Vec::new();
     for set in &sets {
         let times: Vec<Times> = set.records.iter().map(|r| measure(r, Duration::from_millis(100))).collect();
         let ratio = print_set(set, &times);
+        print_looks(set)?;
         ratios.push(format!("{} {ratio:.1}", set.name));
     }
     println!("growth, ns an instruction (the same blocks again and again):");
@@ -109,8 +111,8 @@ fn port_time(bytes: &[u8], blocks: usize, times: usize) -> Duration {
     let mut lent = port::slices(&mut lists);
     let began = Instant::now();
     for _ in 0..times {
-        let sizes = cakirotu::list_into(black_box(bytes), 0..blocks, &mut lent);
-        black_box(sizes.expect("a record of the benchmark is listed"));
+        let listed = cakirotu::list_into(black_box(bytes), 0..blocks, &mut lent);
+        black_box(listed.expect("a record of the benchmark is listed"));
     }
     began.elapsed()
 }
@@ -130,7 +132,7 @@ fn room(n: usize) -> Lists {
 
 /// How many bytes the seven lists of the whole range's listing have.
 fn listed(bytes: &[u8], blocks: usize) -> usize {
-    let sizes = cakirotu::size(bytes, 0..blocks).expect("a record of the benchmark is listed");
+    let sizes = cakirotu::size(bytes, 0..blocks).expect("a record of the benchmark is listed").sizes;
     sizes.text + sizes.tokens * (4 + 1) + sizes.lines * (8 + 2 + 2 + 4)
 }
 
@@ -144,6 +146,25 @@ fn moved(set: &Set) -> (f64, f64) {
         instructions += record.layout().i;
     }
     (read as f64 / instructions as f64, written as f64 / instructions as f64)
+}
+
+/// The port's looks (#111) of the whole range.
+fn looks(record: &Record) -> usize {
+    port::size(&record.to_bytes(), 0, record.blocks.len()).looks
+}
+
+/// The set's looks beside its records' blocks times edges.
+fn print_looks(set: &Set) -> Result<(), String> {
+    let mut totals = Totals::default();
+    for record in &set.records {
+        totals.add(looks(record), record.blocks.len(), record.layout().e)?;
+    }
+    let Totals { looks, products, most, ratio, met: [blocks, edges] } = totals;
+    println!(
+        "  looks {looks}, B × E {products}, ratio {:.2}; of a record at most {most}, ratio {ratio:.2} (B {blocks} E {edges})",
+        looks as f64 / products.max(1) as f64
+    );
+    Ok(())
 }
 
 /// The set's mean times and ratio; of the set `worst` the least ratio of a record.
@@ -164,14 +185,15 @@ fn print_set(set: &Set, times: &[Times]) -> f64 {
         for (r, t) in set.records.iter().zip(times) {
             let l = r.layout();
             println!(
-                "  B {:3} I {:3} E {:3} A {:3}: Rust {:8.1}, port {:8.1}, ratio {:.1}",
+                "  B {:3} I {:3} E {:3} A {:3}: Rust {:8.1}, port {:8.1}, ratio {:.1}; looks {}",
                 l.b,
                 l.i,
                 l.e,
                 l.a,
                 t.rust,
                 t.port,
-                t.ratio()
+                t.ratio(),
+                looks(r)
             );
         }
         return least;

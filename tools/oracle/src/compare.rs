@@ -4,6 +4,8 @@ mod answers;
 pub mod literals;
 pub mod rows;
 pub mod tables;
+#[cfg(test)]
+mod tests;
 
 use std::collections::BTreeSet;
 use std::path::PathBuf;
@@ -13,7 +15,8 @@ use crate::demand3;
 use crate::gen;
 use crate::lines::Forms;
 use crate::listing;
-use crate::lists::{self, Lists};
+use crate::lists::{self, Answer, Lists};
+use crate::looks::{self, totals::Totals};
 use crate::pieces::{self, Piece};
 use crate::port::{self, Port};
 use crate::questions;
@@ -257,7 +260,9 @@ pub fn lines(seed: u64, count: usize) -> Result<bool, String> {
         forms.add(&record, &ours);
         seen.add(&ours);
         tally.compared += 1;
-        if let Err(why) = accepted(&call, &port, Lists::lent(lists::fitting(ours.sizes())), &ours) {
+        let want = answered(&record, 0, 1, &ours);
+        let lent = Lists::lent(lists::fitting(ours.sizes()));
+        if let Err(why) = sized(&call, &port, want).and_then(|()| accepted(&call, &port, lent, &ours, want)) {
             tally.differs(&call, || why)?;
         }
     }
@@ -266,21 +271,26 @@ pub fn lines(seed: u64, count: usize) -> Result<bool, String> {
     Ok(tally.end())
 }
 
-/// Whole listings: every list of the port against the Rust's, demand 3 of what both list, and refusals of lists one too short.
+/// Whole listings: every list of the port against the Rust's, its looks against `looks.rs`, demand 3 of what both list, and refusals of lists one
+/// too short.
 pub fn whole(seed: u64, count: usize) -> Result<bool, String> {
-    let port = port::linked()?;
+    let (tally, seen) = listings(&port::linked()?, seed, count, Tally::new("listing"))?;
+    seen.print();
+    Ok(tally.end())
+}
+
+/// So many calls for listings.
+fn listings(port: &Port, seed: u64, count: usize, mut tally: Tally) -> Result<(Tally, Seen), String> {
     let mut rng = Rng::new(seed);
-    let mut tally = Tally::new("listing");
     let mut seen = Seen::default();
     for n in 0..count {
         let call = listing_call(&mut rng, n);
         tally.compared += 1;
-        if let Err(why) = lists_alike(&call, &port, n, &mut seen) {
+        if let Err(why) = lists_alike(&call, port, n, &mut seen) {
             tally.differs(&call, || why)?;
         }
     }
-    seen.print();
-    Ok(tally.end())
+    Ok((tally, seen))
 }
 
 /// How many were compared with the amended Rust, of records with bits 16 and of others, and how many with the unchanged one.
@@ -306,13 +316,18 @@ fn lists_alike(call: &Call, port: &Port, n: usize, seen: &mut Seen) -> Result<()
     let Call { bytes, from, to } = call;
     let no = questions::first_no(bytes, *from, *to);
     if no != 0 {
+        sized(call, port, Answer::refusal(no))?;
         return refused(call, port, Lists::lent(lists::fitting([64, 16, 8])), no);
     }
-    let ours = listing::list(bytes, *from, *to).map_err(|e| format!("the Rust panics: {e}"))?;
+    let record = Record::parse(bytes);
+    let ours = listing::list_record(&record, *from, *to).map_err(|e| format!("the Rust panics: {e}"))?;
+    let want = answered(&record, *from, *to, &ours);
     seen.add(&ours);
-    accepted(call, port, Lists::lent(lists::fitting(ours.sizes())), &ours)?;
-    demand3::check(&Record::parse(bytes), *from, *to, &ours)?;
-    accepted(call, port, Lists::longer(ours.sizes()), &ours)?;
+    seen.looks.add(want.looks, to - from, record.layout().e)?;
+    sized(call, port, want)?;
+    accepted(call, port, Lists::lent(lists::fitting(ours.sizes())), &ours, want)?;
+    demand3::check(&record, *from, *to, &ours)?;
+    accepted(call, port, Lists::longer(ours.sizes()), &ours, want)?;
     if ours.lines() == 0 {
         return Ok(());
     }
@@ -320,30 +335,43 @@ fn lists_alike(call: &Call, port: &Port, n: usize, seen: &mut Seen) -> Result<()
     refused(call, port, lent, no)
 }
 
-/// A refusal: the number, no sizes, and every list as it was lent.
+/// What both calls must answer where the Rust lists so.
+fn answered(record: &Record, from: usize, to: usize, ours: &listing::Listing) -> Answer {
+    Answer { no: 0, sizes: ours.sizes(), looks: looks::looks(record, from, to) }
+}
+
+/// The call for the sizes.
+fn sized(call: &Call, port: &Port, want: Answer) -> Result<(), String> {
+    alike("sizing", want, (port.size)(&call.bytes, call.from, call.to))
+}
+
+/// A refusal: the number, no sizes, no looks, and every list as it was lent.
 fn refused(call: &Call, port: &Port, lent: Lists, no: u8) -> Result<(), String> {
-    let left = (port.list)(&call.bytes, call.from, call.to, lent.clone());
-    if left.no != no || left.sizes != [0; 3] {
-        return Err(format!("expected no {no}, the port says {} with sizes {:?}", left.no, left.sizes));
-    }
-    if left.lists != lent {
+    let (answer, left) = (port.list)(&call.bytes, call.from, call.to, lent.clone());
+    alike("listing", Answer::refusal(no), answer)?;
+    if left != lent {
         return Err(format!("no {no}, and a list was changed"));
     }
     Ok(())
 }
 
-/// A listing: the sizes, and the lists as an accepted call leaves them.
-fn accepted(call: &Call, port: &Port, lent: Lists, ours: &listing::Listing) -> Result<(), String> {
-    let left = (port.list)(&call.bytes, call.from, call.to, lent.clone());
-    let sizes = ours.sizes();
-    if left.no != 0 || left.sizes != sizes {
-        return Err(format!("the Rust lists {sizes:?}, the port says {} with sizes {:?}", left.no, left.sizes));
-    }
+/// A listing: the sizes, the looks, and the lists as an accepted call leaves them.
+fn accepted(call: &Call, port: &Port, lent: Lists, ours: &listing::Listing, want: Answer) -> Result<(), String> {
+    let (answer, left) = (port.list)(&call.bytes, call.from, call.to, lent.clone());
+    alike("listing", want, answer)?;
     let want = lent.filled(ours);
-    if left.lists != want {
-        return Err(first_unlike(&want, &left.lists));
+    if left != want {
+        return Err(first_unlike(&want, &left));
     }
     Ok(())
+}
+
+fn alike(what: &str, want: Answer, got: Answer) -> Result<(), String> {
+    let said = |a: Answer| format!("{} with sizes {:?} and {} looks", a.no, a.sizes, a.looks);
+    match want == got {
+        true => Ok(()),
+        false => Err(format!("{what}: expected {}, the port says {}", said(want), said(got))),
+    }
 }
 
 /// Which list differs first, and where.
@@ -392,6 +420,7 @@ fn is_sane(call: &Call, seen: &mut Seen) -> Result<(), String> {
     }
     let listing = listing::list_record(&record, *from, *to).map_err(|e| format!("the Rust panics: {e}"))?;
     seen.add(&listing);
+    seen.looks.add(looks::looks(&record, *from, *to), to - from, record.layout().e)?;
     demand3::check(&record, *from, *to, &listing)
 }
 
@@ -410,6 +439,7 @@ struct Seen {
     dos: usize,
     ifs: usize,
     deepest: u16,
+    looks: Totals,
 }
 
 impl Seen {
@@ -444,5 +474,7 @@ impl Seen {
             "  at most: {} lines, {} tokens, {} text bytes in a listing, indent {}",
             self.most_lines, self.most_tokens, self.longest, self.deepest
         );
+        let Totals { looks, most, ratio, met: [blocks, edges], .. } = self.looks;
+        println!("  looks {looks}, at most {most} in a listing, at most {ratio:.2} × B × E ({blocks} blocks, {edges} edges)");
     }
 }

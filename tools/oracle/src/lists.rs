@@ -2,7 +2,22 @@
 
 use crate::listing;
 
-/// What a call of the port left: the answer, the sizes, and the seven lists whole.
+/// What a call for a listing answers: 0 or a number, the sizes, and the looks (#111).
+#[derive(Clone, Copy, Debug, PartialEq, Eq)]
+pub struct Answer {
+    pub no: u8,
+    pub sizes: [usize; 3],
+    pub looks: usize,
+}
+
+impl Answer {
+    /// "A refusal reports 0."
+    pub fn refusal(no: u8) -> Answer {
+        Answer { no, sizes: [0; 3], looks: 0 }
+    }
+}
+
+/// What a call for reading rows left: the answer, the sizes, and the seven lists whole.
 pub struct Left {
     pub no: u8,
     pub sizes: [usize; 3],

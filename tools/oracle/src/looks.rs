@@ -3,6 +3,9 @@
 
 #[cfg(test)]
 mod tests;
+pub mod totals;
+#[cfg(test)]
+pub mod wrong;
 
 use std::ops::Range;
 

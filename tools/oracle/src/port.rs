@@ -1,6 +1,9 @@
 //! The port's functions, if its library is linked: the product's as its Rust binding has them, and those of `exports.rs`.
 
-use crate::lists::{Left, Lists};
+#[cfg(test)]
+pub mod second;
+
+use crate::lists::{Answer, Left, Lists};
 use crate::literals::Reader;
 use crate::pieces::Tokens;
 use crate::rows::Written;
@@ -11,7 +14,9 @@ use crate::tables::{Lent, Made, Names};
 pub struct Port {
     pub first_no: fn(&[u8], usize, usize) -> u8,
     pub piece_tokens: fn(&[u8], u16, u16, u8) -> Tokens,
-    pub list: fn(&[u8], usize, usize, Lists) -> Left,
+    pub size: fn(&[u8], usize, usize) -> Answer,
+    /// What the call answers, and the lists that it left.
+    pub list: fn(&[u8], usize, usize, Lists) -> (Answer, Lists),
     /// Lists, their sizes, and a list for the rows.
     pub write_rows: fn(&Lists, [usize; 3], Vec<u8>) -> Written,
     pub read_rows: fn(&[u8], Lists) -> Left,
@@ -25,6 +30,7 @@ pub fn linked() -> Result<Port, String> {
     Ok(Port {
         first_no: exports::first_no,
         piece_tokens: exports::piece,
+        size,
         list,
         write_rows,
         read_rows,
@@ -38,26 +44,39 @@ pub fn linked() -> Result<Port, String> {
     Err("libcomparison.a is not linked: tools/compare makes it and builds with the feature `comparison`".to_string())
 }
 
+#[cfg(feature = "abi")]
+pub fn size(bytes: &[u8], from: usize, to: usize) -> Answer {
+    answer(cakirotu::size(bytes, (from, to)))
+}
+
 /// One call on lent lists.
 #[cfg(feature = "abi")]
-pub fn list(bytes: &[u8], from: usize, to: usize, mut lists: Lists) -> Left {
-    let answer = cakirotu::list_into(bytes, (from, to), &mut slices(&mut lists));
-    left(answer, lists)
+pub fn list(bytes: &[u8], from: usize, to: usize, mut lists: Lists) -> (Answer, Lists) {
+    let listed = cakirotu::list_into(bytes, (from, to), &mut slices(&mut lists));
+    (answer(listed), lists)
+}
+
+/// With a refusal the binding has seen to it that the library stored zeros.
+#[cfg(feature = "abi")]
+fn answer(listed: Result<cakirotu::Listed, cakirotu::Refusal>) -> Answer {
+    match listed {
+        Ok(listed) => Answer { no: 0, sizes: numbers(listed.sizes), looks: listed.looks as usize },
+        Err(refusal) => Answer::refusal(refusal.number()),
+    }
 }
 
 #[cfg(feature = "abi")]
-fn left(answer: Result<cakirotu::Sizes, cakirotu::Refusal>, lists: Lists) -> Left {
-    let (no, sizes) = match answer {
-        Ok(sizes) => (0, sizes),
-        Err(refusal) => (refusal.number(), cakirotu::Sizes::default()),
-    };
-    Left { no, sizes: [sizes.text, sizes.tokens, sizes.lines], lists }
+fn numbers(sizes: cakirotu::Sizes) -> [usize; 3] {
+    [sizes.text, sizes.tokens, sizes.lines]
 }
 
 #[cfg(feature = "abi")]
 pub fn read_rows(file: &[u8], mut lists: Lists) -> Left {
-    let answer = cakirotu::read_rows_into(file, &mut slices(&mut lists));
-    left(answer, lists)
+    let (no, sizes) = match cakirotu::read_rows_into(file, &mut slices(&mut lists)) {
+        Ok(sizes) => (0, numbers(sizes)),
+        Err(refusal) => (refusal.number(), [0; 3]),
+    };
+    Left { no, sizes, lists }
 }
 
 #[cfg(feature = "abi")]

@@ -47,8 +47,8 @@ slice-aggregate-list-7 c = search needs
 list-requires : tie.Need-list-requires
 list-requires c κs = search needs
 
-enum-known-z : tie.Need-enum-known-z
-enum-known-z c = search needs
+enum-known-answer : tie.Need-enum-known-answer
+enum-known-answer c = search needs
 
 slice-aggregate-part : tie.Need-slice-aggregate-part
 slice-aggregate-part c = search needs
@@ -84,13 +84,13 @@ put-page-requires : tie.Need-put-page-requires
 put-page-requires c κs =
     let s = (c .before .before .before .before .before .before .before .before .before .before .before .before .before .before .before .before .before .before .before .before .before .before .before .before .before .before .before .before .before .before .before .before .before .args) .rec .now in
     let whole = (c .before .before .before .before .before .before .before .before .before .before .before .before .before .before .before .before .before .before .before .before .before .before .before .before .before .before .before .before .before .size) .ensures .0 ∙ ap (λ (h : Header). h .blocks) ((c .before .before .before .before .before .before .before .before .before .before .before .before .before .before .before .before .before .before .before .before .before .before .before .before .before .before .before .before .before .before .read-header) .ensures) in
-    let few = few-lines s _ whole _ _ ((c .before .before .before .before .before .before .before .before .before .before .before .before .before .before .before .before .before .before .before .before .before .list) .ensures .called) _ ((c .before .before .before .before .before .before .before .before .before .before .before .before .z) .given .1) in
-    let short = short-text s _ whole _ _ ((c .before .before .before .before .before .before .before .before .before .before .before .before .before .before .before .before .before .before .before .before .before .list) .ensures .called) _ ((c .before .before .before .before .before .before .before .before .before .before .before .before .z) .given .1) in
+    let few = few-lines s _ whole _ _ ((c .before .before .before .before .before .before .before .before .before .before .before .before .before .before .before .before .before .before .before .before .before .list) .ensures .called) _ ((c .before .before .before .before .before .before .before .before .before .before .before .before .answer) .given .1) in
+    let short = short-text s _ whole _ _ ((c .before .before .before .before .before .before .before .before .before .before .before .before .before .before .before .before .before .before .before .before .before .list) .ensures .called) _ ((c .before .before .before .before .before .before .before .before .before .before .before .before .answer) .given .1) in
     let kept = (c .before .before .before .before .before .before .before .before .before .before .before .before .before .before .before .before .before .before .before .before .before .list) .kept .1 .1 .1 in
     (omega (arith, few, kept .1 .1 .1 .0, length-replicate {A = ℕ} 900 0), omega (arith, short, (c .before .before .before .before .before .before .before .before .part) .ensures .1, kept .0, length-replicate {A = ℕ} 65536 0))
 
-enum-known-n : tie.Need-enum-known-n
-enum-known-n c = search needs
+enum-known-answer-2 : tie.Need-enum-known-answer-2
+enum-known-answer-2 c = search needs
 
 put-refusal-requires : tie.Need-put-refusal-requires
 put-refusal-requires c κs = search needs
@@ -105,8 +105,8 @@ returns c =
     let whole = (c .before .before .before .before .before .before .before .before .before .before .before .before .before .before .before .before .before .before .before .before .before .before .before .before .before .before .before .before .before .before .before .before .size) .ensures .0 ∙ ap (λ (h : Header). h .blocks) ((c .before .before .before .before .before .before .before .before .before .before .before .before .before .before .before .before .before .before .before .before .before .before .before .before .before .before .before .before .before .before .before .before .before .read-header) .ensures) in
     let bytes : AllBytes s = λ k. omega (arith, (c .before .before .before .before .before .before .before .before .before .before .before .before .before .before .before .before .before .before .before .before .before .before .before .before .before .before .before .before .before .before .before .before .before .before .before .shared-slice-known) .given k) in
     let kept = (c .before .before .before .before .before .before .before .before .before .before .before .before .before .before .before .before .before .before .before .before .before .before .before .before .list) .kept .1 .1 .1 in
-    let p = page-output s _ whole _ _ ((c .before .before .before .before .before .before .before .before .before .before .before .before .before .before .before .before .before .before .before .before .before .before .before .before .list) .ensures .called) _ ((c .before .before .before .before .before .before .before .before .before .before .before .before .before .before .before .z) .given .1) _ _ _ _ _ ((c .before .before .before .before .before .before .before .before .before .before .before .part) .ensures .0) ((c .before .before .before .before .before .before .before .before .before .part-u32) .ensures) ((c .before .before .before .before .before .before .before .part-u322) .ensures) ((c .before .before .before .before .before .part-u64) .ensures) ((c .before .before .before .part-u16) .ensures) in
-    let short = short-output s _ whole _ _ ((c .before .before .before .before .before .before .before .before .before .before .before .before .before .before .before .before .before .before .before .before .before .before .before .before .list) .ensures .called) _ ((c .before .before .before .before .before .before .before .before .before .before .before .before .before .before .before .z) .given .1) bytes (kept .0 ∙ length-replicate {A = ℕ} 65536 0) (kept .1 .1 .1 .0 ∙ length-replicate {A = ℕ} 900 0) in
+    let p = page-output s _ whole _ _ ((c .before .before .before .before .before .before .before .before .before .before .before .before .before .before .before .before .before .before .before .before .before .before .before .before .list) .ensures .called) _ ((c .before .before .before .before .before .before .before .before .before .before .before .before .before .before .before .answer) .given .1) _ _ _ _ _ ((c .before .before .before .before .before .before .before .before .before .before .before .part) .ensures .0) ((c .before .before .before .before .before .before .before .before .before .part-u32) .ensures) ((c .before .before .before .before .before .before .before .part-u322) .ensures) ((c .before .before .before .before .before .part-u64) .ensures) ((c .before .before .before .part-u16) .ensures) in
+    let short = short-output s _ whole _ _ ((c .before .before .before .before .before .before .before .before .before .before .before .before .before .before .before .before .before .before .before .before .before .before .before .before .list) .ensures .called) _ ((c .before .before .before .before .before .before .before .before .before .before .before .before .before .before .before .answer) .given .1) bytes (kept .0 ∙ length-replicate {A = ℕ} 65536 0) (kept .1 .1 .1 .0 ∙ length-replicate {A = ℕ} 900 0) in
     let end = (c .before .before .put-page) .ensures .0 ∙ ap length p in
     let text = (c .before .before .put-page) .ensures .1 ∙ ap (λ (t : List ℕ). put 0 t out) p in
     page-prints s _ (stands-whole _ out _ _ end text (omega (arith, end, short, c .before .before .before .before .before .before .before .before .before .before .before .before .before .before .before .before .before .before .before .before .before .before .before .before .before .before .before .before .before .before .before .before .before .before .before .before .pre)))
@@ -119,7 +119,7 @@ returns-2 c =
     let s = (c .before .before .before .before .before .before .before .before .before .before .before .before .before .before .before .before .before .before .before .before .before .before .before .before .before .before .args) .rec .now in
     let out = (c .before .before .before .before .before .before .before .before .before .before .before .before .before .before .before .before .before .before .before .before .before .before .before .before .before .before .args) .out .now in
     let whole = (c .before .before .before .before .before .before .before .before .before .before .before .before .before .before .before .before .before .before .before .before .before .before .size) .ensures .0 ∙ ap (λ (h : Header). h .blocks) ((c .before .before .before .before .before .before .before .before .before .before .before .before .before .before .before .before .before .before .before .before .before .before .before .read-header) .ensures) in
-    let p = no-output s _ whole _ _ ((c .before .before .before .before .before .before .before .before .before .before .before .before .before .before .list) .ensures .called) pageOf _ ((c .before .before .before .before .before .n) .given .1) in
+    let p = no-output s _ whole _ _ ((c .before .before .before .before .before .before .before .before .before .before .before .before .before .before .list) .ensures .called) pageOf _ ((c .before .before .before .before .before .answer2) .given .1) in
     let end = (c .before .before .put-refusal) .ensures .0 .0 ∙ sym (ap length p) in
     let text = (c .before .before .put-refusal) .ensures .1 ∙ sym (ap (λ (t : List ℕ). put 0 t out) p) in
     let short = (c .before .before .put-refusal) .ensures .0 .1 in
@@ -139,7 +139,7 @@ answer-spec =
     slice-aggregate-list-6
     slice-aggregate-list-7
     list-requires
-    enum-known-z
+    enum-known-answer
     slice-aggregate-part
     part-requires
     slice-aggregate-part-u32
@@ -151,7 +151,7 @@ answer-spec =
     slice-aggregate-part-u16
     part-u16-requires
     put-page-requires
-    enum-known-n
+    enum-known-answer-2
     put-refusal-requires
     same-length
     returns

@@ -41,8 +41,8 @@ slice-aggregate-list-7 c = search needs
 list-requires : tie.Need-list-requires
 list-requires c κs = search needs
 
-enum-known-z : tie.Need-enum-known-z
-enum-known-z c = search needs
+enum-known-answer : tie.Need-enum-known-answer
+enum-known-answer c = search needs
 
 slice-aggregate-write-rows : tie.Need-slice-aggregate-write-rows
 slice-aggregate-write-rows c = search needs
@@ -77,8 +77,8 @@ enum-known-n-2 c = search needs
 put-refusal-requires : tie.Need-put-refusal-requires
 put-refusal-requires c κs = search needs
 
-enum-known-n-3 : tie.Need-enum-known-n-3
-enum-known-n-3 c = search needs
+enum-known-answer-2 : tie.Need-enum-known-answer-2
+enum-known-answer-2 c = search needs
 
 put-refusal-requires-2 : tie.Need-put-refusal-requires-2
 put-refusal-requires-2 c κs = search needs
@@ -92,7 +92,7 @@ returns c =
     let whole = c .before .before .before .before .before .before .before .before .before .before .before .before .before .before .before .before .before .before .before .before .before .before .before .before .before .before .before .before .before .before .before .before .size .ensures .0 ∙ ap (λ (h : Header). h .blocks) (c .before .before .before .before .before .before .before .before .before .before .before .before .before .before .before .before .before .before .before .before .before .before .before .before .before .before .before .before .before .before .before .before .before .read-header .ensures) in
     let kept = c .before .before .before .before .before .before .before .before .before .before .before .before .before .before .before .before .before .before .before .before .before .before .before .before .list .kept .1 .1 .1 in
     let l = length-replicate {A = ℕ} in
-    file-prints s _ whole _ _ (c .before .before .before .before .before .before .before .before .before .before .before .before .before .before .before .before .before .before .before .before .before .before .before .before .list .ensures) _ (c .before .before .before .before .before .before .before .before .before .before .before .before .before .before .before .z .given .1) (kept .0 ∙ l 65536 0) (kept .1 .0 ∙ l 16384 0) (kept .1 .1 .1 .0 ∙ l 900 0) _ _ _ (c .before .before .before .before .before .write-rows .ensures) (c .before .before .before .before .before .before .before .before .before .before .before .before .before .before .before .before .before .before .before .before .before .before .before .before .before .before .before .before .before .before .before .before .before .before .before .before .pre) _ (c .before .n .given .1)
+    file-prints s _ whole _ _ (c .before .before .before .before .before .before .before .before .before .before .before .before .before .before .before .before .before .before .before .before .before .before .before .before .list .ensures) _ (c .before .before .before .before .before .before .before .before .before .before .before .before .before .before .before .answer .given .1) (kept .0 ∙ l 65536 0) (kept .1 .0 ∙ l 16384 0) (kept .1 .1 .1 .0 ∙ l 900 0) _ _ _ (c .before .before .before .before .before .write-rows .ensures) (c .before .before .before .before .before .before .before .before .before .before .before .before .before .before .before .before .before .before .before .before .before .before .before .before .before .before .before .before .before .before .before .before .before .before .before .before .pre) _ (c .before .n .given .1)
 
 same-length-2 : tie.Need-same-length-2
 same-length-2 c = search needs
@@ -103,7 +103,7 @@ returns-2 c =
     let whole = c .before .before .before .before .before .before .before .before .before .before .before .before .before .before .before .before .before .before .before .before .before .before .before .before .before .before .before .before .before .before .before .before .before .before .before .before .size .ensures .0 ∙ ap (λ (h : Header). h .blocks) (c .before .before .before .before .before .before .before .before .before .before .before .before .before .before .before .before .before .before .before .before .before .before .before .before .before .before .before .before .before .before .before .before .before .before .before .before .before .read-header .ensures) in
     let kept = c .before .before .before .before .before .before .before .before .before .before .before .before .before .before .before .before .before .before .before .before .before .before .before .before .before .before .before .before .list .kept .1 .1 .1 in
     let l = length-replicate {A = ℕ} in
-    absurd (never-refused s _ whole _ _ (c .before .before .before .before .before .before .before .before .before .before .before .before .before .before .before .before .before .before .before .before .before .before .before .before .before .before .before .before .list .ensures) _ (c .before .before .before .before .before .before .before .before .before .before .before .before .before .before .before .before .before .before .before .z .given .1) (kept .0 ∙ l 65536 0) (kept .1 .0 ∙ l 16384 0) (kept .1 .1 .1 .0 ∙ l 900 0) _ _ _ (c .before .before .before .before .before .before .before .before .before .write-rows .ensures) (c .before .before .before .before .before .before .before .before .before .before .before .before .before .before .before .before .before .before .before .before .before .before .before .before .before .before .before .before .before .before .before .before .before .before .before .before .before .before .before .before .pre) _ (c .before .before .before .before .before .n2 .given .1))
+    absurd (never-refused s _ whole _ _ (c .before .before .before .before .before .before .before .before .before .before .before .before .before .before .before .before .before .before .before .before .before .before .before .before .before .before .before .before .list .ensures) _ (c .before .before .before .before .before .before .before .before .before .before .before .before .before .before .before .before .before .before .before .answer .given .1) (kept .0 ∙ l 65536 0) (kept .1 .0 ∙ l 16384 0) (kept .1 .1 .1 .0 ∙ l 900 0) _ _ _ (c .before .before .before .before .before .before .before .before .before .write-rows .ensures) (c .before .before .before .before .before .before .before .before .before .before .before .before .before .before .before .before .before .before .before .before .before .before .before .before .before .before .before .before .before .before .before .before .before .before .before .before .before .before .before .before .pre) _ (c .before .before .before .before .before .n2 .given .1))
 
 same-length-3 : tie.Need-same-length-3
 same-length-3 c = search needs
@@ -114,7 +114,7 @@ returns-3 c =
     let whole = c .before .before .before .before .before .before .before .before .before .before .before .before .before .before .before .before .before .before .before .before .before .before .size .ensures .0 ∙ ap (λ (h : Header). h .blocks) (c .before .before .before .before .before .before .before .before .before .before .before .before .before .before .before .before .before .before .before .before .before .before .before .read-header .ensures) in
     let r = c .before .before .put-refusal2 .ensures in
     let is = stands-whole _ (c .before .before .before .before .before .before .before .before .before .before .before .before .before .before .before .before .before .before .before .before .before .before .before .before .before .before .args .out .now) _ _ (r .0 .0) (r .1) (omega (arith, r .0 .1, c .before .before .before .before .before .before .before .before .before .before .before .before .before .before .before .before .before .before .before .before .before .before .before .before .before .before .pre)) in
-    number-prints s _ whole _ _ (c .before .before .before .before .before .before .before .before .before .before .before .before .before .before .list .ensures) _ (c .before .before .before .before .before .n3 .given .1) _ is (omega (arith, ap length is, r .0))
+    number-prints s _ whole _ _ (c .before .before .before .before .before .before .before .before .before .before .before .before .before .before .list .ensures) _ (c .before .before .before .before .before .answer2 .given .1) _ is (omega (arith, ap length is, r .0))
 
 pub answer-spec : {M : Type 1} → statement M
 answer-spec =
@@ -130,7 +130,7 @@ answer-spec =
     slice-aggregate-list-6
     slice-aggregate-list-7
     list-requires
-    enum-known-z
+    enum-known-answer
     slice-aggregate-write-rows
     slice-aggregate-write-rows-2
     slice-aggregate-write-rows-3
@@ -142,7 +142,7 @@ answer-spec =
     enum-known-n
     enum-known-n-2
     put-refusal-requires
-    enum-known-n-3
+    enum-known-answer-2
     put-refusal-requires-2
     same-length
     returns

@@ -67,8 +67,8 @@ fn listings() -> Result<[Set; 3], String> {
 }
 
 fn listed(record: &Record) -> (Lists, [usize; 3]) {
-    let left = port::list(&record.to_bytes(), 0, record.blocks.len(), room(1 << 14));
-    (left.lists.cut(lists::fitting(left.sizes)), left.sizes)
+    let (answer, left) = port::list(&record.to_bytes(), 0, record.blocks.len(), room(1 << 14));
+    (left.cut(lists::fitting(answer.sizes)), answer.sizes)
 }
 
 /// The rows are the second implementation's, so that only what is measured calls the port.

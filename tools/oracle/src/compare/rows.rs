@@ -67,9 +67,9 @@ impl Run<'_> {
     fn listed(&mut self, rng: &mut Rng) -> (Lists, [usize; 3]) {
         let call = valid_call(rng);
         let room = [1 << 16, 1 << 14, 900];
-        let left = (self.port.list)(&call.bytes, call.from, call.to, Lists::lent(lists::fitting(room)));
+        let (answer, left) = (self.port.list)(&call.bytes, call.from, call.to, Lists::lent(lists::fitting(room)));
         self.seen.records += 1;
-        (left.lists.cut(lists::fitting(left.sizes).map(|n| n + rng.below(3))), left.sizes)
+        (left.cut(lists::fitting(answer.sizes).map(|n| n + rng.below(3))), answer.sizes)
     }
 
     /// No rows: one byte, and lists that end at 0.

@@ -180,6 +180,41 @@ fn a_true_edge_without_a_condition() {
     assert_eq!(looking(&record, 0, 3), Looking { looks: 2 + 2 + 2, loops: vec![0], ifs: vec![] });
 }
 
+/// A shape of 200 blocks, by the edges of each: its looks, its edges, and its looks in hundredths of B × E. The port says the same.
+fn shape(edges: fn(usize) -> Vec<(usize, u8)>) -> [usize; 3] {
+    let all: Vec<Vec<(usize, u8)>> = (0..200).map(edges).collect();
+    let record = record(&all.iter().map(|edges| &edges[..]).collect::<Vec<_>>(), &[]);
+    let (looks, e) = (of(&record), record.layout().e);
+    #[cfg(feature = "abi")]
+    assert_eq!(crate::port::size(&record.to_bytes(), 0, 200).looks, looks);
+    [looks, e, (looks + e) / (2 * e)]
+}
+
+/// What shapes cost; docs/BINDINGS.md has the last numbers.
+#[test]
+fn shapes_of_200_blocks() {
+    // One block after another: the search alone.
+    let chain = shape(|i| if i < 199 { vec![(i + 1, FALL)] } else { vec![] });
+    assert_eq!(chain, [200 * 199 / 2, 199, 50]);
+    // Twenty loops of ten blocks: at each head a search, from the end to the loop's last block, and an entry test.
+    let loops = shape(|i| if i % 10 < 9 { vec![(i + 1, FALL)] } else { vec![(i - 9, TRUE), ((i + 1) % 200, FALSE)] });
+    assert_eq!(loops, [(0..20).map(|n| 11 * n + 1 + 11 * 19).sum(), 220, 14]);
+    // An if over every second block: at each a search, an entry and an escape test that read all but the branch's block once; one more search.
+    let ifs = shape(|i| match i {
+        198.. => vec![],
+        _ if i % 2 == 0 => vec![(i + 2, TRUE), (i + 1, FALSE)],
+        _ => vec![(i + 1, FALL)],
+    });
+    assert_eq!(ifs, [(1..=99).map(|n| 3 * n + 3 * 99 + 1).sum(), 297, 75]);
+    // Branches over two blocks each, which cross. The first opens a region: search 394, entry 390, escape 4, and in it searches of 4 and 2. From place 3
+    // on no branch does: a search, and an entry test that reads up to the branch before.
+    let crossing = shape(|i| if i < 197 { vec![(i + 3, TRUE), (i + 1, FALSE)] } else { vec![] });
+    assert_eq!(crossing, [394 + 390 + 4 + 4 + 2 + (3..197).map(|i| 2 * (197 - i) + 2 * i - 1).sum::<usize>(), 394, 98]);
+    // Ifs in ifs, as deep as they go.
+    let nest = shape(|i| if i < 199 { vec![(199, TRUE), (i + 1, FALSE)] } else { vec![] });
+    assert_eq!(nest, [(0..198).map(|n| 2 * (398 - n)).sum::<usize>() + 2, 398, 149]);
+}
+
 /// "For E edges in the record and B blocks in the range it is at most 5 × B × E." Loops and regions are those of the Rust's listing.
 #[test]
 fn generated_records() {

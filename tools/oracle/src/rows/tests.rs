@@ -4,9 +4,8 @@ use super::*;
 use crate::compare::rows::compared;
 use crate::listing;
 use crate::lists::fitting;
-use crate::pieces::Tokens;
+use crate::port::second::second;
 use crate::port::Port;
-use crate::questions;
 use crate::record::example;
 use crate::rng::Rng;
 
@@ -195,24 +194,6 @@ fn writing_asks_for_lines_first() {
     ];
     for change in wrong {
         assert_eq!(no(change), [16, 16]);
-    }
-}
-
-/// The second implementation as the port, whose listings are the Rust's.
-fn second() -> Port {
-    Port {
-        first_no: questions::first_no,
-        piece_tokens: |_, _, _, _| Tokens::default(),
-        list: |bytes, from, to, lent| match listing::list(bytes, from, to) {
-            Ok(ours) if fitting(ours.sizes()).iter().zip(lent.lengths()).all(|(n, room)| *n <= room) => {
-                Left { no: 0, sizes: ours.sizes(), lists: lent.filled(&ours) }
-            }
-            _ => Left { no: 12, sizes: [0; 3], lists: lent },
-        },
-        write_rows: write,
-        read_rows: read,
-        read_literal: crate::literals::read,
-        command_table: crate::tables::make,
     }
 }
 

@@ -1,5 +1,5 @@
 -- `cakirotu_list` meets its contract.
--- The call's answer has the number and the sizes.
+-- The call's answer has the number, the sizes and the looks.
 use Rattle.abi.proofs.Exports.{exported}
 use borrow.Author.Needs.{needs}
 use Rattle.abi.proofs.export.cakirotu_list.Statement.{statement}
@@ -8,8 +8,8 @@ use Rattle.abi.proofs.export.cakirotu_list.Tie as tie
 list-requires : tie.Need-list-requires
 list-requires c κs = search needs
 
-put-answer-requires : tie.Need-put-answer-requires
-put-answer-requires c κs = search needs
+put-answered-requires : tie.Need-put-answered-requires
+put-answered-requires c κs = search needs
 
 same-length : tie.Need-same-length
 same-length c = search needs
@@ -36,14 +36,17 @@ same-length-8 : tie.Need-same-length-8
 same-length-8 c = search needs
 
 returns : tie.Need-returns
-returns c = exported ((c .before .before .before .before .before .before .before .before .before .before .before .before .before .before .before .before .before .before .before .before .before .before .before .before .before .before .before .before .before .before .before .before .before .before .before .args) .rec .now) ((c .before .before .before .before .before .before .before .before .before .before .before .before .before .before .before .before .before .before .before .before .before .before .before .before .before .before .before .before .before .before .before .before .before .before .before .args) .from) ((c .before .before .before .before .before .before .before .before .before .before .before .before .before .before .before .before .before .before .before .before .before .before .before .before .before .before .before .before .before .before .before .before .before .before .before .args) .to) _ _ _ _ _ _ ((c .before .before .before .before .before .before .before .before .before .before .before .before .before .before .before .before .before .before .list) .ensures) ((c .before .before .put-answer) .ensures .0) ((c .before .before .put-answer) .ensures .1)
+returns c =
+    let z = c .before .before .before .before .before .before .before .before .before .before .before .before .before .before .before .before .before .before .before .before .before .before .before .before .before .before .before .before .before .before .before .before .before .before .before .args in
+    let put = c .before .before .put-answered .ensures in
+    exported (z .rec .now) (z .from) (z .to) _ _ _ _ _ (put .0) (put .1) _ _ (c .before .before .before .before .before .before .before .before .before .before .before .before .before .before .before .before .before .before .list .ensures)
 
 pub cakirotu-list-spec : {M : Type 1} → statement M
 cakirotu-list-spec =
     tie.close
     (tie.spec
     list-requires
-    put-answer-requires
+    put-answered-requires
     same-length
     same-length-2
     same-length-3

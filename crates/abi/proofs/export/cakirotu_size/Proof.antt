@@ -1,5 +1,5 @@
 -- `cakirotu_size` meets its contract.
--- The sizer's answer has the number and the sizes.
+-- The sizer's answer has the number, the sizes and the looks.
 use Rattle.abi.proofs.Exports.{sized}
 use borrow.Author.Needs.{needs}
 use Rattle.abi.proofs.export.cakirotu_size.Statement.{statement}
@@ -8,14 +8,18 @@ use Rattle.abi.proofs.export.cakirotu_size.Tie as tie
 size-requires : tie.Need-size-requires
 size-requires c κs = search needs
 
-put-answer-requires : tie.Need-put-answer-requires
-put-answer-requires c κs = search needs
+put-answered-requires : tie.Need-put-answered-requires
+put-answered-requires c κs = search needs
 
 same-length : tie.Need-same-length
 same-length c = search needs
 
 returns : tie.Need-returns
-returns c = sized ((c .before .before .before .before .before .before .before .args) .rec .now) ((c .before .before .before .before .before .before .before .args) .from) ((c .before .before .before .before .before .before .before .args) .to) _ _ _ _ ((c .before .before .before .size) .ensures) ((c .before .before .put-answer) .ensures .0) ((c .before .before .put-answer) .ensures .1)
+returns c =
+    let z = c .before .before .before .before .before .before .before .args in
+    let put = c .before .before .put-answered .ensures in
+    let size = c .before .before .before .size .ensures in
+    sized (z .rec .now) (z .from) (z .to) _ _ _ _ _ (put .0) (put .1) (size .0) (size .1)
 
 pub cakirotu-size-spec : {M : Type 1} → statement M
-cakirotu-size-spec = tie.close (tie.spec size-requires put-answer-requires same-length returns)
+cakirotu-size-spec = tie.close (tie.spec size-requires put-answered-requires same-length returns)

@@ -1,7 +1,7 @@
 -- `list` meets its contract.
 -- By what the questions before 12 answer.
 use mathlib.Core.Path.{sym, _∙_}
-use Rattle.pseudo.proofs.Calls.{accepted, ends-small, called-no}
+use Rattle.pseudo.proofs.Calls.{accepted, ends-small, called-no, looks-no}
 use Rattle.pseudo.proofs.Promises.{promised}
 use borrow.Author.Needs.{needs}
 use Rattle.pseudo.proofs.call.list.Statement.{statement}
@@ -12,6 +12,9 @@ record-requires c κs = search needs
 
 enum-known-n : tie.Need-enum-known-n
 enum-known-n c = search needs
+
+with-looks-requires : tie.Need-with-looks-requires
+with-looks-requires c κs = search needs
 
 enum-known-h : tie.Need-enum-known-h
 enum-known-h c = search needs
@@ -30,7 +33,11 @@ list-accepted-requires : tie.Need-list-accepted-requires
 list-accepted-requires c κs = accepted ((c .before .before .before .before .before .before .before .before .before .before .before .before .before .before .before .before .before .before .before .args) .rec .now) ((c .before .before .before .before .before .before .before .before .before .before .before .before .before .before .before .before .before .before .before .args) .from) ((c .before .before .before .before .before .before .before .before .before .before .before .before .before .before .before .before .before .before .before .args) .to) _ (sym ((c .before .before .before .before .before .before .before .before .h) .given .1) ∙ (c .before .before .before .before .before .before .before .before .before .before .«record») .ensures .answer)
 
 returns : tie.Need-returns
-returns c = promised _ _ _ _ _ _ (called-no ((c .before .before .before .before .before .before .before .before .before .before .before .before .args) .rec .now) ((c .before .before .before .before .before .before .before .before .before .before .before .before .args) .from) ((c .before .before .before .before .before .before .before .before .before .before .before .before .args) .to) _ _ (sym ((c .before .n) .given .1) ∙ (c .before .before .before .«record») .ensures .answer))
+returns c =
+    let z = c .before .before .before .before .before .before .before .before .before .before .before .before .before in
+    let asked = sym (c .before .before .n .given .1) ∙ c .before .before .before .before .«record» .ensures .answer in
+    rw (c .with-looks .ensures .0)
+    (promised _ _ _ _ _ _ (called-no (z .args .rec .now) (z .args .from) (z .args .to) _ _ asked) _ (looks-no (z .args .rec .now) (z .args .from) (z .args .to) _ _ (c .with-looks .ensures .1)))
 
 same-length : tie.Need-same-length
 same-length c = search needs
@@ -54,7 +61,9 @@ same-length-7 : tie.Need-same-length-7
 same-length-7 c = search needs
 
 returns-2 : tie.Need-returns-2
-returns-2 c = promised _ _ _ _ _ _ (c .before .before .before .before .before .before .before .before .before .before .before .before .before .before .list-accepted .ensures)
+returns-2 c =
+    let left = c .before .before .before .before .before .before .before .before .before .before .before .before .before .before .list-accepted .ensures in
+    promised _ _ _ _ _ _ (left .0) _ (left .1)
 
 pub list-spec : {M : Type 1} → statement M
 list-spec =
@@ -62,6 +71,7 @@ list-spec =
     (tie.spec
     record-requires
     enum-known-n
+    with-looks-requires
     enum-known-h
     cast-list-accepted
     cast-list-accepted-2

@@ -1,10 +1,12 @@
 -- `size_range` meets its contract.
 -- The codes are the record's plan, read back; its lines fit.
-use Prim.Native.Nat.{ℕ}
+use Prim.Native.Nat.{ℕ, _+_, _*_, _≤_}
+use mathlib.Core.Path.{ap}
 use native.Mathlib.Omega.{arith}
-use lib.ListN.{replicate, length-replicate}
+use lib.ListN.{length, replicate, length-replicate}
+use Rattle.rows.specs.declared.answer.Answer.the-variants.{Listed}
 use Rattle.operand.proofs.Bounds.{AllBytes}
-use Rattle.pseudo.proofs.Calls.{planned, plan-room, codes-are, plan-fits, sized}
+use Rattle.pseudo.proofs.Calls.{planned, plan-room, codes-are, plan-fits, sized, looks-carried}
 use borrow.Author.Needs.{needs}
 use Rattle.pseudo.proofs.size.size_range.Statement.{statement}
 use Rattle.pseudo.proofs.size.size_range.Tie as tie
@@ -42,13 +44,24 @@ size-plan-requires c κs =
     let bytes : AllBytes s = λ k. omega (arith, (c .before .before .before .before .before .before .before .before .before .before .shared-slice-known2) .given k) in
     ((c .before .before .before .before .before .before .before .before .before .before .before .before .pre) .0, ((c .before .before .before .before .before .before .before .before .before .before .before .before .pre) .1 .0, ((c .before .before .before .before .before .before .before .before .before .before .before .before .pre) .1 .1 .0, plan-fits s ((c .before .before .before .before .before .before .before .before .before .before .before .before .args) .from) ((c .before .before .before .before .before .before .before .before .before .before .before .before .args) .to) h yes _ e bytes _)))
 
+with-looks-requires : tie.Need-with-looks-requires
+with-looks-requires c κs = search needs
+
 returns : tie.Need-returns
 returns c =
-    let h = (c .before .before .before .before .before .before .before .before .before .before .before .before .before .args) .h in
-    let s = (c .before .before .before .before .before .before .before .before .before .before .before .before .before .args) .rec .now in
-    let yes = (c .before .before .before .before .before .before .before .before .before .before .before .before .before .pre) .1 .1 .1 in
-    let e = codes-are s ((c .before .before .before .before .before .before .before .before .before .before .before .before .before .args) .from) ((c .before .before .before .before .before .before .before .before .before .before .before .before .before .args) .to) h yes (replicate 900 0) _ _ _ (omega (arith, plan-room s ((c .before .before .before .before .before .before .before .before .before .before .before .before .before .args) .from) ((c .before .before .before .before .before .before .before .before .before .before .before .before .before .args) .to) h yes, length-replicate {A = ℕ} 900 0)) ((c .before .before .before .before .before .before .plan-record) .ensures .0) ((c .before .before .before .part-u64) .ensures) in
-    sized s ((c .before .before .before .before .before .before .before .before .before .before .before .before .before .args) .from) ((c .before .before .before .before .before .before .before .before .before .before .before .before .before .args) .to) h yes _ e ((c .before .before .before .before .before .before .before .before .before .before .before .before .before .args) .blocks .now) _ _ _ ((c .before .before .before .before .before .before .before .before .before .before .before .before .before .pre) .1 .1 .0) ((c .before .before .size) .ensures .0) ((c .before .u16-in) .ensures .0) ((c .size-plan) .ensures)
+    let z = c .before .before .before .before .before .before .before .before .before .before .before .before .before .before in
+    let s = z .args .rec .now in
+    let from = z .args .from in
+    let to = z .args .to in
+    let h = z .args .h in
+    let yes = z .pre .1 .1 .1 in
+    let planned = c .before .before .before .before .before .before .before .plan-record .ensures in
+    let room : h .instructions + 2 * h .blocks ≤ length (replicate {A = ℕ} 900 0) = omega (arith, plan-room s from to h yes, length-replicate {A = ℕ} 900 0) in
+    let e = codes-are s from to h yes (replicate 900 0) _ _ _ room (planned .0) (c .before .before .before .before .part-u64 .ensures) in
+    rw (c .with-looks .ensures .0) (
+      ap Listed (sized s from to h yes _ e (z .args .blocks .now) _ _ _ (z .pre .1 .1 .0) (c .before .before .before .size .ensures .0) (c .before .before .u16-in .ensures .0) (c .before .size-plan .ensures)),
+      looks-carried s from to h yes _ _ _ (planned .1) (c .with-looks .ensures .1),
+    )
 
 pub size-range-spec : {M : Type 1} → statement M
 size-range-spec =
@@ -63,4 +76,5 @@ size-range-spec =
     mul-u16-in
     u16-in-requires
     size-plan-requires
+    with-looks-requires
     returns)
