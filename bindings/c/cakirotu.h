@@ -1,5 +1,6 @@
-/* Cakirotu's library for C: lists blocks of a record as pseudocode, writes and reads listings as rows for a spreadsheet, gives a string back
- * from its literal in a listing, and makes a listing's command table for a keyer. docs/BINDINGS.md says how to build and link.
+/* Cakirotu's library for C: lists blocks of a record as pseudocode, says whether such a listing may be followed, writes and reads listings as
+ * rows for a spreadsheet, gives a string back from its literal in a listing, and makes a listing's command table for a keyer. docs/BINDINGS.md
+ * says how to build and link.
  *
  * No function allocates, keeps a pointer, or holds state between calls; threads may call at once. Any bytes may be lent as
  * a record, as rows or as a literal, and any lists as a listing: every call ends with what is asked for or with a number. Nothing is read or stored
@@ -91,6 +92,31 @@ uint8_t cakirotu_list(const uint8_t *rec, size_t rec_len, size_t from, size_t to
 
 /* The sizes and the looks of that listing: lists of just these lengths suffice for cakirotu_list. Answers 0 or a number, none of 12 to 14. */
 uint8_t cakirotu_size(const uint8_t *rec, size_t rec_len, size_t from, size_t to, uint64_t *sizes, size_t sizes_len);
+
+/* What must hold of a record so that following its listing leads where the processor goes (docs/READING.md, "Following a listing"), by the number that
+ * tells that it does not. A reader that takes the kinds of tokens into account may do without 5, 7 and 8. */
+enum cakirotu_assumption {
+    CAKIROTU_FOLLOWS = 0,          /* all of it holds */
+    CAKIROTU_BREAKS_BLOCKS = 1,    /* there is at least one block */
+    CAKIROTU_BREAKS_TURNS = 2,     /* jumps, conditional branches and returns stand only last in a block */
+    CAKIROTU_BREAKS_MARKS = 3,     /* no last instruction is skip-marked */
+    CAKIROTU_BREAKS_SETS = 4,      /* no setcc or cmovcc has a near branch, as first operand */
+    CAKIROTU_BREAKS_CASES = 5,     /* no edge is Case */
+    CAKIROTU_BREAKS_STARTS = 6,    /* no atlas entry has a block's start as its address */
+    CAKIROTU_BREAKS_NAMES = 7,     /* no atlas or mnemonic 0 name begins with loc_ */
+    CAKIROTU_BREAKS_WORDS = 8,     /* no mnemonic 0 name is do, if, goto or return */
+    CAKIROTU_BREAKS_JUMPS = 9,     /* a direct jump to a block of the record has its one Uncond edge to that block */
+    CAKIROTU_BREAKS_FALLS = 10,    /* a block that does not end in a jmp or return has the next block as its one Fall or False edge */
+    CAKIROTU_BREAKS_BRANCHES = 11, /* every conditional branch goes to a block of the record */
+    CAKIROTU_BREAKS_LABELS = 12    /* every goto to a block names a label that stands in the listing */
+};
+
+/* Whether the listing of a whole record may be followed: with 0 `broken` gets CAKIROTU_FOLLOWS or the first assumption that does not hold. Answers 0
+ * or the number of a question before 12, and then `broken` gets 0: look at the answer first.
+ *
+ * rec     the record's bytes
+ * broken  gets an enum cakirotu_assumption in its first entry; entries behind it, and a list without entries, are as they were */
+uint8_t cakirotu_check(const uint8_t *rec, size_t rec_len, uint64_t *broken, size_t broken_len);
 
 /* The most bytes that rows of a listing of these sizes have.
  * A line has at most 16 digits of address, 3 of indent and 5 of place, two commas, CR and LF; a token two commas, a letter and two

@@ -1,6 +1,7 @@
 /* Lists a record file as the program `listing` does: example FILE [FROM TO]
  * Prints its rows for a spreadsheet: example rows FILE; lists a file of rows: example back FILE
  * Prints how much looking its listing takes, with its blocks and edges: example looks FILE
+ * Prints whether its listing may be followed, or which assumption is broken first: example check FILE
  * Exit status: 0 done, 1 refused, 2 nothing could be read or printed. */
 #include "cakirotu.h"
 
@@ -150,6 +151,34 @@ static uint8_t print_looks(const uint8_t *record, size_t len) {
     return no;
 }
 
+/* The assumptions, by number. */
+static const char *const assumed[] = {
+    NULL,
+    "there is at least one block",
+    "jumps, conditional branches and returns stand only last in a block",
+    "no last instruction is skip-marked",
+    "no setcc or cmovcc has a near branch",
+    "no edge is Case",
+    "no atlas entry has a block's start as its address",
+    "no atlas or mnemonic 0 name begins with loc_",
+    "no mnemonic 0 name is do, if, goto or return",
+    "a direct jump to a block of the record has its one Uncond edge to that block",
+    "a block that does not end in a jmp or return has the next block as its one Fall or False edge",
+    "every conditional branch goes to a block of the record",
+    "every goto to a block names a label that stands in the listing",
+};
+
+static uint8_t print_check(const uint8_t *record, size_t len) {
+    uint64_t broken;
+    uint8_t no = cakirotu_check(record, len, &broken, 1);
+    if (no == CAKIROTU_LISTED && broken == CAKIROTU_FOLLOWS) {
+        puts("follows");
+    } else if (no == CAKIROTU_LISTED) {
+        printf("breaks %" PRIu64 ": %s\n", broken, assumed[broken]);
+    }
+    return no;
+}
+
 /* The listing of a record's range or of rows, printed as it is or as rows. */
 static uint8_t print_listing(const uint8_t *bytes, size_t len, size_t from, size_t to, int rows, int back) {
     struct listing l;
@@ -163,19 +192,24 @@ static uint8_t print_listing(const uint8_t *bytes, size_t len, size_t from, size
     return no;
 }
 
+static int usage(void) {
+    fputs("usage: example FILE [FROM TO], example rows|back|looks|check FILE\n", stderr);
+    return 2;
+}
+
 int main(int argc, char **argv) {
     int rows = argc == 3 && strcmp(argv[1], "rows") == 0;
     int back = argc == 3 && strcmp(argv[1], "back") == 0;
     int looks = argc == 3 && strcmp(argv[1], "looks") == 0;
-    if (argc != 2 && argc != 4 && !rows && !back && !looks) {
-        fputs("usage: example FILE [FROM TO], example rows FILE, example back FILE, example looks FILE\n", stderr);
-        return 2;
+    int check = argc == 3 && strcmp(argv[1], "check") == 0;
+    if (argc != 2 && argc != 4 && !rows && !back && !looks && !check) {
+        return usage();
     }
     size_t len;
     uint8_t *bytes = read_file(argv[argc == 3 ? 2 : 1], back ? MOST_ROWS : MOST, &len);
     size_t from = argc == 4 ? (size_t)strtoull(argv[2], NULL, 10) : 0;
     size_t to = argc == 4 ? (size_t)strtoull(argv[3], NULL, 10) : blocks(bytes, len);
-    uint8_t no = looks ? print_looks(bytes, len) : print_listing(bytes, len, from, to, rows, back);
+    uint8_t no = looks ? print_looks(bytes, len) : check ? print_check(bytes, len) : print_listing(bytes, len, from, to, rows, back);
     if (no != CAKIROTU_LISTED) {
         printf("no %d\n", no);
     }

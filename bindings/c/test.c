@@ -207,6 +207,47 @@ static void test_refusals(const uint8_t *rec, size_t len) {
     refused_with(longer, len + ATLAS, len + 10 + 9, 1, CAKIROTU_NO_SPANS);
 }
 
+/* The check of a record, with lists of one, no and two entries: the answer, and what the first entry gets. */
+static void checked(const uint8_t *rec, size_t len, uint8_t no, uint64_t want) {
+    uint64_t broken[2] = {7, 7};
+    CHECK(cakirotu_check(rec, len, broken, 1) == no);
+    CHECK(broken[0] == want && broken[1] == 7);
+    CHECK(cakirotu_check(rec, len, broken, 0) == no);
+    CHECK(broken[0] == want && broken[1] == 7);
+    broken[0] = 7;
+    CHECK(cakirotu_check(rec, len, broken, 2) == no);
+    CHECK(broken[0] == want && broken[1] == 7);
+}
+
+static void checked_with(const uint8_t *rec, size_t len, size_t at, uint8_t byte, uint8_t no, uint64_t want) {
+    uint8_t *changed = copied(rec, len);
+    changed[at] = byte;
+    checked(changed, len, no, want);
+    free(changed);
+}
+
+/* The record follows. Before the body of its branch stands that of test, behind it those of mov and ret. */
+static void test_check(const uint8_t *rec, size_t len) {
+    static uint8_t longer[MOST_RECORD + ATLAS];
+    static const uint8_t none[24] = {64};
+    CHECK(cakirotu_check(NULL, 0, NULL, 0) == CAKIROTU_NO_HEADER);
+    checked(rec, len, CAKIROTU_LISTED, CAKIROTU_FOLLOWS);
+    checked(none, sizeof none, CAKIROTU_LISTED, CAKIROTU_BREAKS_BLOCKS);
+    /* A jmp in place of the test before the branch, the mark of the return. */
+    checked_with(rec, len, BRANCH - 92, 25, CAKIROTU_LISTED, CAKIROTU_BREAKS_TURNS);
+    checked_with(rec, len, BRANCH + 2 * 92 + 3, 1, CAKIROTU_LISTED, CAKIROTU_BREAKS_MARKS);
+    checked_with(rec, len, EDGE_KINDS + 1, 4, CAKIROTU_LISTED, CAKIROTU_BREAKS_CASES);
+    checked_with(rec, len, EDGE_KINDS + 1, 0, CAKIROTU_LISTED, CAKIROTU_BREAKS_FALLS);
+    checked_with(rec, len, EDGE_TARGETS + 8, 5, CAKIROTU_LISTED, CAKIROTU_BREAKS_FALLS);
+    /* With a number 0 is stored. */
+    checked_with(rec, len, 4, 201, CAKIROTU_NO_LIMITS, 0);
+    checked_with(rec, len, EDGE_KINDS, 2, CAKIROTU_NO_BRANCHES, 0);
+    checked(rec, len - 1, CAKIROTU_NO_LENGTH, 0);
+    add_atlas(rec, len, longer);
+    checked(longer, len + ATLAS, CAKIROTU_LISTED, CAKIROTU_FOLLOWS);
+    checked_with(longer, len + ATLAS, len + 1, 0x10, CAKIROTU_LISTED, CAKIROTU_BREAKS_STARTS);
+}
+
 int main(int argc, char **argv) {
     static uint8_t rec[MOST_RECORD];
     CHECK(argc == 2);
@@ -222,6 +263,7 @@ int main(int argc, char **argv) {
     test_cut(rec, len);
     test_branches(rec, len);
     test_refusals(rec, len);
+    test_check(rec, len);
     printf("test: %d passed\n", passed);
     return 0;
 }

@@ -1,6 +1,7 @@
 //! Lists a record file as the program `listing` does: list FILE [FROM TO]
 //! Prints its rows for a spreadsheet: list rows FILE; lists a file of rows: list back FILE
 //! Prints how much looking its listing takes, with its blocks and edges: list looks FILE
+//! Prints whether its listing may be followed, or which assumption is broken first: list check FILE
 //! Exit status: 0 done, 1 refused, 2 nothing could be read or printed.
 
 use std::fs::File;
@@ -34,9 +35,10 @@ fn run(words: &[String]) -> Result<bool, String> {
         ["rows", file] => rows(&read(file, MOST)?, &mut printed),
         ["back", file] => back(&read(file, MOST_ROWS)?, &mut printed),
         ["looks", file] => looks(&read(file, MOST)?, &mut printed),
+        ["check", file] => check(&read(file, MOST)?, &mut printed),
         [file] => list(&read(file, MOST)?, None, &mut printed),
         [file, from, to] => list(&read(file, MOST)?, Some(Blocks { from: number(from)?, to: number(to)? }), &mut printed),
-        _ => return Err("usage: list FILE [FROM TO], list rows FILE, list back FILE, list looks FILE".to_string()),
+        _ => return Err("usage: list FILE [FROM TO], list rows|back|looks|check FILE".to_string()),
     };
     let refused = done.map_or_else(|refusal| format!("no {}\n", refusal.number()), |()| String::new());
     printed.extend(refused.as_bytes());
@@ -76,6 +78,12 @@ fn looks(record: &[u8], out: &mut Vec<u8>) -> Result<(), Refusal> {
     let looks = cakirotu::size(record, blocks)?.looks;
     let edges = u16::from_le_bytes([record[8], record[9]]);
     out.extend(format!("looks={looks} blocks={} edges={edges}\n", blocks.to).as_bytes());
+    Ok(())
+}
+
+fn check(record: &[u8], out: &mut Vec<u8>) -> Result<(), Refusal> {
+    let said = cakirotu::check(record)?.map_or("follows".to_string(), |broken| broken.to_string());
+    out.extend(format!("{said}\n").as_bytes());
     Ok(())
 }
 

@@ -1,4 +1,4 @@
-//! The six functions of libabi.a. All unsafe code is here.
+//! The seven functions of libabi.a. All unsafe code is here.
 
 use crate::{Blocks, Held, Listed, Lists, Names, Refusal, Sizes, TableLists};
 
@@ -30,6 +30,8 @@ extern "C" {
     ) -> u8;
 
     fn cakirotu_size(rec: *const u8, rec_len: usize, from: usize, to: usize, sizes: *mut u64, sizes_len: usize) -> u8;
+
+    fn cakirotu_check(rec: *const u8, rec_len: usize, broken: *mut u64, broken_len: usize) -> u8;
 
     fn cakirotu_write_rows(
         text: *const u8,
@@ -214,6 +216,14 @@ pub fn read_rows(file: &[u8], l: &mut Lists<'_>) -> Result<Sizes, Refusal> {
         )
     };
     answer(no, sizes)
+}
+
+/// The number of the first assumption that is broken, or 0.
+pub fn check(record: &[u8]) -> Result<usize, Refusal> {
+    let mut broken = [UNWRITTEN];
+    // The function is total: it reads the record alone and stores into the one entry alone.
+    let no = unsafe { cakirotu_check(record.as_ptr(), record.len(), broken.as_mut_ptr(), broken.len()) };
+    checked(no, broken).map(|[number]| number)
 }
 
 /// How many bytes the string has, whether it was wide, whether it was cut.

@@ -3,7 +3,7 @@
 //!
 //! Any bytes may be lent as a record: every call ends with a listing or a [`Refusal`]. [`list`] allocates a [`Listing`] of just
 //! the size needed; [`size`] and [`list_into`] allocate nothing and work on lists that the caller lends. All three also tell how much
-//! looking the listing took ([`Listed::looks`]). [`write_rows`] and [`read_rows`] turn a listing into rows and back, [`write_rows_into`]
+//! looking the listing took ([`Listed::looks`]). [`check`] tells whether a record's listing may be followed. [`write_rows`] and [`read_rows`] turn a listing into rows and back, [`write_rows_into`]
 //! and [`read_rows_into`] on what the caller lends. [`read_literal`] gives the bytes of a string, [`read_literal_into`] in a list that
 //! the caller lends; so do [`command_table`] and [`command_table_into`] with the bytes that a register is set to before each call by a
 //! name.
@@ -16,6 +16,7 @@
 //! }
 //! ```
 
+mod assumption;
 mod ffi;
 mod literal;
 mod refusal;
@@ -25,6 +26,7 @@ mod view;
 
 use std::ops::Range;
 
+pub use assumption::{check, Assumption};
 pub use literal::{read_literal, read_literal_into, Literal, LITERAL_BYTES};
 pub use refusal::Refusal;
 pub use rows::{read_rows, read_rows_into, write_rows, write_rows_into, Held};

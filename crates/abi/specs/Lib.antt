@@ -2,3 +2,4 @@ pub mod Exported
 pub mod Rows
 pub mod Strings
 pub mod Tables
+pub mod Checks

@@ -1,4 +1,5 @@
 // The library for C, Rust and others: the calls over numbers and lists.
+pub mod check;
 pub mod export;
 pub mod file;
 mod sizes;

@@ -1,4 +1,5 @@
 // The product's functions under their own names: an archive has the exports of its own crate alone.
+use abi::check::cakirotu_check as check;
 use abi::export::cakirotu_list as list;
 use abi::export::cakirotu_size as size;
 use abi::file::cakirotu_read_rows as read_rows;
@@ -6,6 +7,7 @@ use abi::file::cakirotu_write_rows as write_rows;
 use abi::string::cakirotu_read_literal as read_literal;
 use abi::table::cakirotu_command_table as command_table;
 ghost use Rattle.rows.specs.Lists.{listsOf};
+ghost use Rattle.abi.specs.Checks.{RecordChecked};
 ghost use Rattle.abi.specs.Exported.{Exported, Sized};
 ghost use Rattle.abi.specs.Rows.{RowsWritten, RowsRead};
 ghost use Rattle.abi.specs.Strings.{LiteralRead};
@@ -165,4 +167,11 @@ pub extern "C" fn cakirotu_command_table(
         calls,
         counts,
     )
+}
+
+#[no_mangle]
+pub extern "C" fn cakirotu_check(rec: &[u8], broken: &mut [u64]) -> u8
+    ensures { λ r. ⌜ RecordChecked (now (rec .entry)) (now (broken .entry)) (now (broken .exit)) r ⌝ }
+{
+    check(rec, broken)
 }

@@ -39,7 +39,7 @@ any-then {G} p (suc n) e f = go (p n) refl (any-then p n) e
     go false q ih e = ih (sym (or-false (anyBelow p n)) ∙ e) (λ i l. f i (omega arith))
 
 -- a place that a search found has the number that was sought
-found-is : (numbers : List ℕ) (x k n i : ℕ) → placeFound (findFrom numbers x k n) ≡ i → i < 65535 → numberAt numbers i ≡ x
+pub found-is : (numbers : List ℕ) (x k n i : ℕ) → placeFound (findFrom numbers x k n) ≡ i → i < 65535 → numberAt numbers i ≡ x
 unfolding findFrom
 found-is numbers x k zero i e l = absurd (omega arith)
 found-is numbers x k (suc n) i e l = go (eqb (numberAt numbers k) x) refl (λ q. found-is numbers x (suc k) n i q l) e

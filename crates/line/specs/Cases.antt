@@ -55,44 +55,44 @@ answered c =
     (firstNo (c .bytes) 0 (h .blocks), map join (printed h (c .bytes) 0 0 (recordPlan h (c .bytes) 0 (h .blocks))))
 
 -- n bytes of a number, the lowest first
-abbrev bytes : ℕ → ℕ → List ℕ
+abbrev pub bytes : ℕ → ℕ → List ℕ
 bytes zero v = []
 bytes (suc n) v = (v % 256) ∷ bytes n (v / 256)
 
 -- n bytes, the first of them given, the rest zeros
-abbrev padded : ℕ → List ℕ → List ℕ
+abbrev pub padded : ℕ → List ℕ → List ℕ
 padded zero t = []
 padded (suc n) [] = 0 ∷ padded n []
 padded (suc n) (b ∷ t) = b ∷ padded n t
 
 -- an operand: "u8 kind, u8 register, u64 number"
-abbrev slot : ℕ → ℕ → ℕ → List ℕ
+abbrev pub slot : ℕ → ℕ → ℕ → List ℕ
 slot kind register number = kind ∷ register ∷ bytes 8 number
 
 -- "class × 16 + index": 0x40 is eax, 0x51 rcx, 0x61 rip
-abbrev inRegister : ℕ → List ℕ
+abbrev pub inRegister : ℕ → List ℕ
 inRegister r = slot 0 r 0
 
 abbrev inMemory : List ℕ
 inMemory = slot 1 0 0
 
 -- "u8 segment, base, index, scale; u16 memory size in bytes; u64 memory address", with no segment
-abbrev memory : ℕ → ℕ → ℕ → ℕ → ℕ → List ℕ
+abbrev pub memory : ℕ → ℕ → ℕ → ℕ → ℕ → List ℕ
 memory base index scale size address = 0 ∷ base ∷ index ∷ scale ∷ (bytes 2 size ++ bytes 8 address)
 
-abbrev noMemory : List ℕ
+abbrev pub noMemory : List ℕ
 noMemory = memory 0 0 1 0 0
 
 -- a body of 92 bytes: mnemonic, condition, operands, no skip mark; memory; operands; name
-abbrev body : ℕ → ℕ → List ℕ → List (List ℕ) → String → List ℕ
+abbrev pub body : ℕ → ℕ → List ℕ → List (List ℕ) → String → List ℕ
 body mnemonic cc mem operands name =
     flatten ((mnemonic ∷ cc ∷ length operands ∷ 0 ∷ []) ∷ mem ∷ padded 50 (flatten operands) ∷ padded 24 (ascii name) ∷ [])
 
 -- an instruction without a condition, and a conditional branch: another mnemonic, with a name and a condition
-abbrev insn : ℕ → List ℕ → List (List ℕ) → List ℕ
+abbrev pub insn : ℕ → List ℕ → List (List ℕ) → List ℕ
 insn mnemonic mem operands = body mnemonic 0 mem operands ""
 
-abbrev branch : String → ℕ → ℕ → List ℕ
+abbrev pub branch : String → ℕ → ℕ → List ℕ
 branch name cc target = body 0 cc noMemory (slot 2 0 target ∷ []) name
 
 -- 24 bytes: bits, frame register, shift, shift given, numbers of instructions, edges, atlas entries and text bytes; convention 0, one

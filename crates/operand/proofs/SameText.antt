@@ -46,7 +46,7 @@ module _ (t s c c′ : List ℕ) (ts : List Token) (a : Started c) (f : Coded t 
         text = ap (λ (l : List ℕ). spelled (decode t s l)) front ∙ cells-text;
       }
 
-same-self : (x : List ℕ) → sameWord x x ≡ true
+pub same-self : (x : List ℕ) → sameWord x x ≡ true
 same-self [] = refl
 same-self (x ∷ xs) = rw (eq-eqb x x refl, same-self xs)
 

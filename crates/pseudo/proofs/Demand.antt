@@ -45,7 +45,7 @@ stays f g same (l ∷ ls) = go (isLeftOut (l .what)) refl _ (counted ls) (stays 
     go true e xs os r = r
     go false e xs os r = rw (same (l .what) (l .place) (l .at) e, r)
 
-address-stays : (h : Header) (s : List ℕ) (w : What) (k i : ℕ) → isLeftOut w ≡ false → addressFor h s w k i ≡ addressAt (addressesOf h s) i
+pub address-stays : (h : Header) (s : List ℕ) (w : What) (k i : ℕ) → isLeftOut w ≡ false → addressFor h s w k i ≡ addressAt (addressesOf h s) i
 address-stays h s label-line k i e = absurd (true≢false e)
 address-stays h s do-line k i e = absurd (true≢false e)
 address-stays h s close-line k i e = absurd (true≢false e)

@@ -1,5 +1,5 @@
 -- What a call answers and leaves is what it promises, demand by demand.
--- With a number every list is as it was; with 0 the lists begin with the defined listing, of which demand 3, #102 and #108 are proved.
+-- With a number every list is as it was; with 0 the lists begin with the defined listing, of which demand 3, #102, #108 and #109 are proved.
 use mathlib.Core.Path.{_≡_, refl, sym, ap, _∙_}
 use mathlib.Core.Bool.{Bool, true, false, _&&_}
 use mathlib.Core.List.{List, map}
@@ -31,7 +31,13 @@ use Rattle.rows.specs.declared.answer.Answer.{Answer}
 use Rattle.tokens.proofs.Lines.{lines-back}
 use Rattle.line.proofs.LinesShown.{conditions-shown, calls-shown}
 use Rattle.pseudo.proofs.Answers.{printed-length}
-use Rattle.pseudo.proofs.Demand.{listing-demand3}
+use Rattle.cfg.specs.Graph.{firstIn}
+use Rattle.flow.specs.Rows.{blockRows}
+use Rattle.route.specs.Following.{statedIn}
+use Rattle.route.specs.Assumed.{Assumed}
+use Rattle.route.specs.Followed.{Followed}
+use Rattle.route.proofs.Whole.{lines-followed}
+use Rattle.pseudo.proofs.Demand.{address-stays, listing-demand3}
 use Rattle.pseudo.proofs.Loops.{loops-close}
 use Rattle.pseudo.proofs.RowsHeld.{rows-held}
 
@@ -162,6 +168,26 @@ module _ (s : List ℕ) (from to : ℕ) (b a : Lists) (r : Answer) (c : Called s
   unfolding recordLines
   arguments-held e n = rw e (calls-shown (headerOf s) s n _ (recordPlan (headerOf s) s from to))
 
+  -- the lines that the lists hold, beside their places and addresses, are followed
+  followed-held : (n : ℕ) → Left n → n ≡ 0 → firstNo s from to ≡ 0 → from ≡ 0 → to ≡ headerOf s .blocks → Assumed (headerOf s) s
+      → Followed (headerOf s) s (statedIn a (valuesOf r .lines))
+  unfolding recordLines
+  followed-held (suc n) p z q f t m = absurd (omega arith)
+  followed-held zero p z q f t m =
+      let h = headerOf s in
+      let n = length (new .addresses) in
+      let size : valuesOf r .lines ≡ n = ap (λ (g : Answer). valuesOf g .lines) (p .answer) in
+      let d = listing-demand3 s from to q in
+      let whole = lines-followed s (rw (f, t) at q) m (lineAddress h s) (λ w k i d e. address-stays h s w k i e) (firstIn (blockRows h s) 0) in
+      rw (
+        lines-held zero p z,
+        size,
+        read-back n (new .places) (b .places) (a .places) (d .placed-lines) (p .places),
+        read-back n (new .addresses) (b .addresses) (a .addresses) refl (p .addresses),
+        f,
+        t,
+      ) whole
+
   accepted : callNo s from to rooms ≡ 0 → firstNo s from to ≡ 0
   unfolding callNo
   accepted e = later (firstNo s from to) (roomNo (sizes s from to) rooms) e .0
@@ -177,4 +203,5 @@ module _ (s : List ℕ) (from to : ℕ) (b a : Lists) (r : Answer) (c : Called s
     demand3 = λ e. listed (callNo s from to rooms) c (sym number ∙ e) (accepted (sym number ∙ e));
     rows = λ e. rows-left (callNo s from to rooms) c (sym number ∙ e) (accepted (sym number ∙ e));
     looked = counted;
+    followed = λ e f t m. followed-held (callNo s from to rooms) c (sym number ∙ e) (accepted (sym number ∙ e)) f t m;
   }

@@ -12,6 +12,9 @@ use Rattle.rows.specs.declared.answer.Answer.{Answer}
 use Rattle.record.specs.Header.{headerOf}
 use Rattle.flow.specs.Planned.{recordPlan}
 use Rattle.line.specs.Shown.{ConditionsShown, CallsShown}
+use Rattle.route.specs.Following.{statedIn}
+use Rattle.route.specs.Assumed.{Assumed}
+use Rattle.route.specs.Followed.{Followed}
 use Rattle.pseudo.specs.Called.{Called, LooksCounted}
 use Rattle.pseudo.specs.Demand.{LinesDemand3}
 use Rattle.pseudo.specs.Loops.{LoopsClose}
@@ -43,3 +46,5 @@ pub record Promise (s : List ℕ) (from to : ℕ) (b a : Lists) (r : Answer) (lo
   pub rows : numberOf r ≡ 0 → holdsRows a (valuesOf r .text) (valuesOf r .tokens) (valuesOf r .lines) ≡ true
   -- #111: "The answer carries the count, equal to the definition's."
   pub looked : LooksCounted s from to r looks
+  -- #109, of a whole record under its assumptions: "following braces and gotos must lead where the processor goes"
+  pub followed : numberOf r ≡ 0 → from ≡ 0 → to ≡ headerOf s .blocks → Assumed (headerOf s) s → Followed (headerOf s) s (statedIn a (valuesOf r .lines))

@@ -56,11 +56,11 @@ module _ (blocks shown : List ℕ) where
   lastOwned k = owned k (lastIn blocks k)
 
   -- where the silent mark alone decides of instruction i
-  not-last : (c : Context) (k i : ℕ) → (i ≡ lastIn blocks k → ⊥) → silent blocks shown c k i ≡ not (isShown shown i)
+  pub not-last : (c : Context) (k i : ℕ) → (i ≡ lastIn blocks k → ⊥) → silent blocks shown c k i ≡ not (isShown shown i)
   unfolding silent
   not-last c k i h = rw (ne-eqb i (lastIn blocks k) h)
 
-  is-last : (c : Context) (k i : ℕ) → i ≡ lastIn blocks k → silent blocks shown c k i ≡ lastSilent blocks shown c k
+  pub is-last : (c : Context) (k i : ℕ) → i ≡ lastIn blocks k → silent blocks shown c k i ≡ lastSilent blocks shown c k
   unfolding silent
   is-last c k i h = rw (eq-eqb i (lastIn blocks k) h)
 

@@ -2,6 +2,7 @@
 
 mod answers;
 pub mod literals;
+pub mod routes;
 pub mod rows;
 pub mod tables;
 #[cfg(test)]
@@ -35,6 +36,7 @@ pub const COMPARISONS: &[(&str, Comparison)] = &[
     ("rows", rows::rows),
     ("literals", literals::literals),
     ("tables", tables::tables),
+    ("routes", routes::routes),
     ("sanity", sanity),
 ];
 

@@ -15,6 +15,14 @@ pub fn check(record: &Record, from: usize, to: usize, listing: &Listing) -> Resu
     rising_places(listing)
 }
 
+/// For each instruction of a record whether it is silent, with the regions of the record's listing.
+pub fn silent(record: &Record, listing: &Listing) -> Result<Vec<bool>, String> {
+    let range = Range::new(record, 0, record.blocks.len());
+    let regions = match_braces(&range, listing)?;
+    let all = 0..range.first[range.to];
+    Ok(all.map(|n| is_silent(&range, &regions, range.place_of(n), n)).collect())
+}
+
 /// A range's blocks with the number of each block's first instruction.
 struct Range<'a> {
     record: &'a Record,

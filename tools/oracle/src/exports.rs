@@ -1,4 +1,4 @@
-//! What the port's library exports for the comparison alone, and one function of the product's that the comparison calls as C does. It is the
+//! What the port's library exports for the comparison alone, and two functions of the product's that the comparison calls as C does. It is the
 //! archive that the crate `cakirotu` links.
 
 use crate::pieces::Tokens;
@@ -29,6 +29,8 @@ extern "C" {
         values: *mut u64,
         values_len: usize,
     ) -> u8;
+
+    fn cakirotu_check(rec: *const u8, len: usize, broken: *mut u64, broken_len: usize) -> u8;
 }
 
 /// The first question of a record and a range that gets a no, or 0.
@@ -69,4 +71,10 @@ pub fn read_literal(kind: u8, text: &[u8], out: &mut [u8], values: &mut [u64]) -
     unsafe {
         cakirotu_read_literal(kind, text.as_ptr(), text.len(), out.as_mut_ptr(), out.len(), values.as_mut_ptr(), values.len())
     }
+}
+
+/// The assumption that a record breaks first. The binding always lends one entry; here there may be any number.
+pub fn check(bytes: &[u8], broken: &mut [u64]) -> u8 {
+    // The function is total: it reads the record alone and stores nothing past the list.
+    unsafe { cakirotu_check(bytes.as_ptr(), bytes.len(), broken.as_mut_ptr(), broken.len()) }
 }

@@ -2,6 +2,7 @@
 
 mod atlas;
 mod flow;
+mod followed;
 mod insns;
 mod real;
 mod senders;
@@ -12,6 +13,7 @@ use crate::rng::Rng;
 use flow::{agree, block_starts, blocks, branch, jump_in_loops, set_addresses, want_labels};
 use insns::{any_insn, any_register, indirect, one};
 
+pub use followed::followed;
 pub use senders::sender;
 
 pub const LIMIT_B: usize = 200;

@@ -1,5 +1,5 @@
 //! What the port is compared with: the unchanged Rust emitter over a record, the amended one where document 02 departs from it, and the
-//! questions, rows, literals, command tables and looks of documents 01 and 02 written a second time.
+//! questions, rows, literals, command tables, looks and routes of documents 01 and 02 written a second time.
 
 pub mod compare;
 pub mod damage;
@@ -19,6 +19,7 @@ pub mod questions;
 pub mod record;
 pub mod replay;
 pub mod rng;
+pub mod routes;
 pub mod rows;
 pub mod tables;
 

@@ -22,6 +22,7 @@ const USAGE: &str = "usage: oracle list FILE [FROM TO]     the Rust's listing of
        oracle rows SEED COUNT        compare the port's rows, written and read, with the second implementation's
        oracle literals SEED COUNT    compare the strings that the port reads out of literals with the second implementation's
        oracle tables SEED COUNT      compare the port's command tables with the second implementation's
+       oracle routes SEED COUNT      compare the listing's route with the processor's, and the port's check of a record with the second one
        oracle sanity SEED COUNT      generated records against the questions, the Rust and demand 3
        oracle bench [SET rust|port]  the port's speed against the Rust's; one listing each of a set's records
        oracle bench-rows FOLDER      the port's speed with rows and tables, and the files into a folder

@@ -22,6 +22,8 @@ pub struct Port {
     pub read_rows: fn(&[u8], Lists) -> Left,
     pub read_literal: Reader,
     pub command_table: Maker,
+    /// A record, and a list for the assumption that it breaks first.
+    pub check: fn(&[u8], &mut [u64]) -> u8,
 }
 
 #[cfg(feature = "comparison")]
@@ -36,6 +38,7 @@ pub fn linked() -> Result<Port, String> {
         read_rows,
         read_literal: exports::read_literal,
         command_table,
+        check: exports::check,
     })
 }
 

@@ -4,7 +4,7 @@ use super::Port;
 use crate::lists::{fitting, Answer, Lists, TOO_SHORT};
 use crate::pieces::Tokens;
 use crate::record::Record;
-use crate::{listing, literals, looks, questions, rows, tables};
+use crate::{listing, literals, looks, questions, routes, rows, tables};
 
 pub fn second() -> Port {
     Port {
@@ -16,6 +16,7 @@ pub fn second() -> Port {
         read_rows: rows::read,
         read_literal: literals::read,
         command_table: tables::make,
+        check: routes::assumed::check,
     }
 }
 

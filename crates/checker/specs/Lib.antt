@@ -1,0 +1,4 @@
+pub mod Edges
+pub mod Rows
+pub mod Broken
+pub mod Called

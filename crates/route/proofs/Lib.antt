@@ -1,0 +1,16 @@
+pub mod Stating
+pub mod Rules
+pub mod Joined
+pub mod Parts
+pub mod FormLines
+pub mod Told
+pub mod Names
+pub mod Passed
+pub mod Follows
+pub mod Routes
+pub mod Endings
+pub mod Led
+pub mod Steps
+pub mod Premises
+pub mod Whole
+pub mod Worked

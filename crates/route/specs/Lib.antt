@@ -1,0 +1,6 @@
+pub mod Statement
+pub mod Trace
+pub mod Following
+pub mod Processor
+pub mod Assumed
+pub mod Followed

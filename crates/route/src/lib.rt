@@ -1,0 +1,1 @@
+// Following a listing leads where the processor goes: definitions and the theorem.
