@@ -5,7 +5,8 @@ use mathlib.Core.Bool.{Bool, true, false, not}
 use mathlib.Core.List.{List}
 use Prim.Native.Nat.{ℕ, zero, suc}
 use native.Mathlib.Omega.{arith}
-use borrow.Author.Tests.{not-true, not-false}
+use borrow.Author.Tests.{not-true, not-false, le-leb}
+use lib.Dec.{leb}
 use Rattle.record.specs.declared.header.Header.{Header}
 use Rattle.record.specs.declared.asked.Asked.{Asked}
 use Rattle.record.specs.declared.asked.Asked.the-variants as asked
@@ -23,26 +24,39 @@ yes-of {r} p e = sym p ∙ not-false r e
 pub no-of : {r q : Bool} → r ≡ q → not r ≡ true → q ≡ false
 no-of {r} p e = sym p ∙ not-true r e
 
+-- ---- the stages
+pub some-blocks : (n : ℕ) → (n ≡ 0 → ⊥) → leb 1 n ≡ true
+some-blocks n p = le-leb 1 n (omega arith)
+
 -- a stage that has a number
 pub stops : (n later : ℕ) → (n ≡ 0 → ⊥) → n ≡ orElse n later
 stops zero later p = absurd (p refl)
 stops (suc n) later p = refl
 
--- ---- what the questions answered
-pub accepted : (s : List ℕ) (to : ℕ) (h : Header) (r : Asked) → to ≡ headerOf s .blocks → Answered s 0 to r → r ≡ asked.Yes h → Accepted h s
-accepted s to h r t a e =
-    let yes : firstNo s 0 to ≡ 0 = sym (a .number) ∙ ap numberOf e in
-    let same : asked.Yes h ≡ asked.Yes (headerOf s) = sym e ∙ (a .answer ∙ rw yes) in
-    record { header = cc; yes = rw (← t) yes }
+-- two constructors that would be equal
+impossible : {A : Type 0} → _≡_ {A = ℕ} 0 1 → A
+impossible e = absurd (omega arith)
 
-pub checks-no : (s : List ℕ) (to n : ℕ) (r : Asked) → to ≡ headerOf s .blocks → Answered s 0 to r → r ≡ asked.No n → Checks s (No n)
-checks-no s to n r t a e = go (firstNo s 0 to) refl (sym e ∙ a .answer)
-  where
-    go : (f : ℕ) → firstNo s 0 to ≡ f → asked.No n ≡ answerOf f (headerOf s) → Checks s (No n)
-    go zero q z = absurd (let w : _≡_ {A = ℕ} 0 1 = cc in omega arith)
-    go (suc f) q z =
-        let same : n ≡ suc f = cc in
-        record { answer = rw (← t, q, same); assumed = λ w. absurd (let u : _≡_ {A = ℕ} 0 1 = cc in omega arith) }
+-- ---- what the questions answered, of the whole range, whose end was read off the header
+module _ (s : List ℕ) (read : Header) (to : ℕ) (r : Asked) (head : read ≡ headerOf s) (size : to ≡ read .blocks) (a : Answered s 0 to r) where
+  answered-whole : Answered s 0 (headerOf s .blocks) r
+  answered-whole = rw (← head, ← size) a
+
+  pub accepted : (h : Header) → r ≡ asked.Yes h → Accepted h s
+  accepted h e =
+      let w = answered-whole in
+      let yes : firstNo s 0 (headerOf s .blocks) ≡ 0 = sym (w .number) ∙ ap numberOf e in
+      let same : asked.Yes h ≡ asked.Yes (headerOf s) = sym e ∙ (w .answer ∙ rw yes) in
+      record { header = cc; yes = yes }
+
+  pub checks-no : (n : ℕ) → r ≡ asked.No n → Checks s (No n)
+  checks-no n e = go (firstNo s 0 (headerOf s .blocks)) refl (sym e ∙ answered-whole .answer)
+    where
+      go : (f : ℕ) → firstNo s 0 (headerOf s .blocks) ≡ f → asked.No n ≡ answerOf f (headerOf s) → Checks s (No n)
+      go zero q z = impossible cc
+      go (suc f) q z =
+          let same : n ≡ suc f = cc in
+          record { answer = rw (q, same); assumed = λ w. impossible cc }
 
 -- ---- what an accepted record breaks
 module _ (h : Header) (s : List ℕ) (a : Accepted h s) where
@@ -55,4 +69,4 @@ module _ (h : Header) (s : List ℕ) (a : Accepted h s) where
   checks-broken zero p z = absurd (z refl)
   checks-broken (suc n) p z =
       let one : firstBroken (headerOf s) s ≡ suc n = rw (← a .header) (sym p) in
-      record { answer = rw (a .yes, one); assumed = λ w. absurd (let u : _≡_ {A = ℕ} 0 1 = cc in omega arith) }
+      record { answer = rw (a .yes, one); assumed = λ w. impossible cc }

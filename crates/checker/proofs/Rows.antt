@@ -1,6 +1,6 @@
 -- The checker's tests over the rows of an accepted record are the assumptions of #109 over the record.
 -- Block by block: a row's numbers are the record's, and how a block ends says what its last instruction is.
-use mathlib.Core.Path.{_≡_, refl}
+use mathlib.Core.Path.{_≡_, refl, _∙_}
 use mathlib.Core.Bool.{Bool, true, false, not, _&&_, _||_, Bool·not-not, true≢false}
 use mathlib.Core.List.{List}
 use Prim.Native.Nat.{ℕ, zero, suc, _+_, _-_, _<_}
@@ -118,7 +118,7 @@ module _ (h : Header) (s : List ℕ) where
   unfolding lastsUnmarked
   lasts-unmarked-is = all-same _ _ (h .blocks) marked-in
 
-  pub others-led-is : allBelow (otherLed (targetsOf h s) (edgeKindsOf h s) (bodiesOf h s) rows (startsOf h s) (h .blocks)) (h .blocks) ≡ othersLed h s
+  others-led-is : allBelow (otherLed (targetsOf h s) (edgeKindsOf h s) (bodiesOf h s) rows (startsOf h s) (h .blocks)) (h .blocks) ≡ othersLed h s
   unfolding othersLed
   others-led-is = all-same _ _ (h .blocks) other-in
 
@@ -126,6 +126,20 @@ module _ (h : Header) (s : List ℕ) where
   unfolding branchesInside
   branches-inside-is = all-same _ _ (h .blocks) branch-in
 
-  pub jumps-led-is : Counted h s → PlainJmps h s → allBelow (jumpLed (targetsOf h s) (edgeKindsOf h s) (bodiesOf h s) rows) (h .blocks) ≡ jumpsLed h s
+  jumps-led-is : Counted h s → PlainJmps h s → allBelow (jumpLed (targetsOf h s) (edgeKindsOf h s) (bodiesOf h s) rows) (h .blocks) ≡ jumpsLed h s
   unfolding jumpsLed
   jumps-led-is t plain = all-same _ _ (h .blocks) (λ k l. jump-in k l t plain)
+
+-- what was read of a record: its targets, kinds of edges, bodies and rows
+pub record Parts (h : Header) (s targets kinds bodies blocks : List ℕ) : Type 0 where
+  pub targets-are : targets ≡ targetsOf h s
+  pub kinds-are : kinds ≡ edgeKindsOf h s
+  pub bodies-are : bodies ≡ bodiesOf h s
+  pub rows-are : blocks ≡ blockRows h s
+
+module _ (h : Header) (s targets kinds bodies blocks : List ℕ) (p : Parts h s targets kinds bodies blocks) where
+  pub jumps-told : Counted h s → PlainJmps h s → (r : Bool) → r ≡ allBelow (jumpLed targets kinds bodies blocks) (h .blocks) → r ≡ jumpsLed h s
+  jumps-told t plain r e = e ∙ rw (p .targets-are, p .kinds-are, p .bodies-are, p .rows-are) (jumps-led-is h s t plain)
+
+  pub others-told : (starts : List ℕ) (r : Bool) → starts ≡ startsOf h s → r ≡ allBelow (otherLed targets kinds bodies blocks starts (h .blocks)) (h .blocks) → r ≡ othersLed h s
+  others-told starts r q e = e ∙ rw (p .targets-are, p .kinds-are, p .bodies-are, p .rows-are, q) (others-led-is h s)

@@ -1,9 +1,10 @@
 -- 9 to 12, or 0: `broken_leads` meets its contract.
 -- Each test that was read is the assumption, and the first that fails gives the number.
 use mathlib.Core.Path.{_≡_, _∙_}
-use Rattle.route.specs.Assumed.{jumpsLed, othersLed, branchesInside}
+use Rattle.lists.specs.Choice.{ask}
+use Rattle.route.specs.Assumed.{jumpsLed, othersLed, branchesInside, gotosLabelled}
 use Rattle.checker.specs.Broken.{brokenLeads}
-use Rattle.checker.proofs.Rows.{jumps-led-is, others-led-is, branches-inside-is}
+use Rattle.checker.proofs.Rows.{branches-inside-is, Parts, jumps-told, others-told}
 use Rattle.checker.proofs.Planned.{plain, counted}
 use Rattle.checker.proofs.Answers.{yes-of, no-of}
 use borrow.Author.Needs.{needs}
@@ -11,38 +12,38 @@ use Rattle.checker.proofs.check.broken_leads.Statement.{statement}
 use Rattle.checker.proofs.check.broken_leads.Tie as tie
 
 -- ---- the tests
-jumps : (c : tie.After-jumps-led) → c .jumps-led .result ≡ jumpsLed (c .before .before .before .before .before .before .before .before .before .args .h) (c .before .before .before .before .before .before .before .before .before .args .rec .now)
+parts : (c : tie.After-from3) → let a = c .before .before .before .before .before .before .before .before .args in Parts (a .h) (a .rec .now) (c .before .before .before .before .from .result .now) (c .before .before .from2 .result .now) (c .from3 .result .now) (a .blocks .now)
+parts c =
+    record {
+      targets-are = rw (c .before .before .before .before .from .ensures .0, c .before .before .before .before .before .targets-at .ensures .0);
+      kinds-are = rw (c .before .before .from2 .ensures .0, c .before .before .before .edge-kinds-at .ensures .0);
+      bodies-are = rw (c .from3 .ensures .0, c .before .bodies-at .ensures .0);
+      rows-are = c .before .before .before .before .before .before .before .before .pre .1;
+    }
+
+jumps : (c : tie.After-jumps-led) → let a = c .before .before .before .before .before .before .before .before .before .args in c .jumps-led .result ≡ jumpsLed (a .h) (a .rec .now)
 jumps c =
     let z = c .before .before .before .before .before .before .before .before .before in
     let a = z .args in
-    c .jumps-led .ensures
-    ∙ rw (
-      c .before .from3 .ensures .0,
-      c .before .before .bodies-at .ensures .0,
-      c .before .before .before .from2 .ensures .0,
-      c .before .before .before .before .edge-kinds-at .ensures .0,
-      c .before .before .before .before .before .from .ensures .0,
-      c .before .before .before .before .before .before .targets-at .ensures .0,
-      z .pre .1,
-    ) (jumps-led-is (a .h) (a .rec .now) (counted (a .h) (a .rec .now) (z .pre .0)) (plain (a .h) (a .rec .now) (z .pre .0)))
+    jumps-told _ _ _ _ _ _ (parts (c .before)) (counted (a .h) (a .rec .now) (z .pre .0)) (plain (a .h) (a .rec .now) (z .pre .0)) _ (c .jumps-led .ensures)
 
-others : (c : tie.After-others-led) → c .others-led .result ≡ othersLed (c .before .before .before .before .before .before .before .before .before .before .before .before .args .h) (c .before .before .before .before .before .before .before .before .before .before .before .before .args .rec .now)
-others c =
-    let z = c .before .before .before .before .before .before .before .before .before .before .before .before in
-    c .others-led .ensures
-    ∙ rw (
-      c .before .from4 .ensures .0,
-      c .before .before .before .before .from3 .ensures .0,
-      c .before .before .before .before .before .bodies-at .ensures .0,
-      c .before .before .before .before .before .before .from2 .ensures .0,
-      c .before .before .before .before .before .before .before .edge-kinds-at .ensures .0,
-      c .before .before .before .before .before .before .before .before .from .ensures .0,
-      c .before .before .before .before .before .before .before .before .before .targets-at .ensures .0,
-      z .pre .1,
-    ) (others-led-is (z .args .h) (z .args .rec .now))
+others : (c : tie.After-others-led) → let a = c .before .before .before .before .before .before .before .before .before .before .before .before .args in c .others-led .result ≡ othersLed (a .h) (a .rec .now)
+others c = others-told _ _ _ _ _ _ (parts (c .before .before .before .before)) _ _ (c .before .from4 .ensures .0) (c .others-led .ensures)
 
-branches : (c : tie.After-branches-inside) → c .branches-inside .result ≡ branchesInside (c .before .before .before .before .before .before .before .before .before .before .before .before .before .before .args .h) (c .before .before .before .before .before .before .before .before .before .before .before .before .before .before .args .rec .now)
-branches c = c .branches-inside .ensures ∙ rw (c .before .before .before .before .before .before .before .before .before .before .before .before .before .before .pre .1) (branches-inside-is (c .before .before .before .before .before .before .before .before .before .before .before .before .before .before .args .h) (c .before .before .before .before .before .before .before .before .before .before .before .before .before .before .args .rec .now))
+branches : (c : tie.After-branches-inside) → let a = c .before .before .before .before .before .before .before .before .before .before .before .before .before .before .args in c .branches-inside .result ≡ branchesInside (a .h) (a .rec .now)
+branches c =
+    let z = c .before .before .before .before .before .before .before .before .before .before .before .before .before .before in
+    let a = z .args in
+    c .branches-inside .ensures
+    ∙ rw (z .pre .1) (branches-inside-is (a .h) (a .rec .now))
+
+-- ---- what is left to ask behind some
+past-ten : (c : tie.Else2) → let a = c .before .before .before .before .before .before .before .before .before .before .before .before .before .args in brokenLeads (a .h) (a .rec .now) ≡ ask 11 (branchesInside (a .h) (a .rec .now)) (ask 12 (gotosLabelled (a .h) (a .rec .now)) 0)
+unfolding brokenLeads
+past-ten c = rw (yes-of (jumps (c .before .before .before .before)) (c .before .before .before .if1 .left), yes-of (others (c .before)) (c .if2 .left))
+
+past-eleven : (c : tie.Else3) → let a = c .before .before .before .before .before .before .before .before .before .before .before .before .before .before .before .args in brokenLeads (a .h) (a .rec .now) ≡ ask 12 (gotosLabelled (a .h) (a .rec .now)) 0
+past-eleven c = past-ten (c .before .before) ∙ rw (yes-of (branches (c .before)) (c .if3 .left))
 
 -- ---- the needs
 
@@ -85,32 +86,16 @@ branches-inside-requires : tie.Need-branches-inside-requires
 branches-inside-requires c κs = search needs
 
 returns-3 : tie.Need-returns-3
-unfolding brokenLeads
-returns-3 c =
-    rw (yes-of (jumps (c .before .before .before .before .before .before)) (c .before .before .before .before .before .if1 .left), yes-of (others (c .before .before .before)) (c .before .before .if2 .left), no-of (branches (c .before)) (c .if3 .taken))
+returns-3 c = rw (past-ten (c .before .before), no-of (branches (c .before)) (c .if3 .taken))
 
 gotos-labelled-requires : tie.Need-gotos-labelled-requires
 gotos-labelled-requires c κs = search needs
 
 returns-4 : tie.Need-returns-4
-unfolding brokenLeads
-returns-4 c =
-    rw (
-      yes-of (jumps (c .before .before .before .before .before .before .before .before)) (c .before .before .before .before .before .before .before .if1 .left),
-      yes-of (others (c .before .before .before .before .before)) (c .before .before .before .before .if2 .left),
-      yes-of (branches (c .before .before .before)) (c .before .before .if3 .left),
-      no-of (c .before .gotos-labelled .ensures) (c .if4 .taken),
-    )
+returns-4 c = rw (past-eleven (c .before .before), no-of (c .before .gotos-labelled .ensures) (c .if4 .taken))
 
 returns-5 : tie.Need-returns-5
-unfolding brokenLeads
-returns-5 c =
-    rw (
-      yes-of (jumps (c .before .before .before .before .before .before .before .before)) (c .before .before .before .before .before .before .before .if1 .left),
-      yes-of (others (c .before .before .before .before .before)) (c .before .before .before .before .if2 .left),
-      yes-of (branches (c .before .before .before)) (c .before .before .if3 .left),
-      yes-of (c .before .gotos-labelled .ensures) (c .if4 .left),
-    )
+returns-5 c = rw (past-eleven (c .before .before), yes-of (c .before .gotos-labelled .ensures) (c .if4 .left))
 
 pub broken-leads-spec : {M : Type 1} → statement M
 broken-leads-spec =

@@ -2,6 +2,7 @@
 -- Each test that was read is the assumption, and the first that fails gives the number.
 use mathlib.Core.Path.{_≡_, _∙_}
 use mathlib.Core.Bool.{_&&_}
+use Rattle.lists.specs.Choice.{ask}
 use Rattle.checker.specs.Broken.{entriesPlain, mnemonicsPlain, noFlowWords, brokenNames}
 use Rattle.checker.proofs.Planned.{rising}
 use Rattle.checker.proofs.Answers.{yes-of, no-of}
@@ -10,7 +11,7 @@ use Rattle.checker.proofs.check.broken_names.Statement.{statement}
 use Rattle.checker.proofs.check.broken_names.Tie as tie
 
 -- ---- the tests
-plain : (c : tie.After-mnemonics-plain) → (c .before .entries-plain .result && c .mnemonics-plain .result) ≡ (entriesPlain (c .before .before .before .before .before .before .before .before .before .before .before .args .h) (c .before .before .before .before .before .before .before .before .before .before .before .args .rec .now) && mnemonicsPlain (c .before .before .before .before .before .before .before .before .before .before .before .args .h) (c .before .before .before .before .before .before .before .before .before .before .before .args .rec .now))
+plain : (c : tie.After-mnemonics-plain) → let a = c .before .before .before .before .before .before .before .before .before .before .before .args in (c .before .entries-plain .result && c .mnemonics-plain .result) ≡ (entriesPlain (a .h) (a .rec .now) && mnemonicsPlain (a .h) (a .rec .now))
 unfolding entriesPlain mnemonicsPlain
 plain c =
     rw (
@@ -24,9 +25,16 @@ plain c =
       c .before .before .before .before .before .before .before .before .before .bodies-at .ensures .0,
     )
 
-wordless : (c : tie.After-no-flow-words) → c .no-flow-words .result ≡ noFlowWords (c .before .before .before .before .before .before .before .before .before .before .before .before .before .args .h) (c .before .before .before .before .before .before .before .before .before .before .before .before .before .args .rec .now)
+wordless : (c : tie.After-no-flow-words) → let a = c .before .before .before .before .before .before .before .before .before .before .before .before .before .args in c .no-flow-words .result ≡ noFlowWords (a .h) (a .rec .now)
 unfolding noFlowWords
-wordless c = c .no-flow-words .ensures ∙ rw (c .before .before .before .before .before .before .before .before .before .before .from .ensures .0, c .before .before .before .before .before .before .before .before .before .before .before .bodies-at .ensures .0)
+wordless c =
+    c .no-flow-words .ensures
+    ∙ rw (c .before .before .before .before .before .before .before .before .before .before .from .ensures .0, c .before .before .before .before .before .before .before .before .before .before .before .bodies-at .ensures .0)
+
+-- ---- what is left to ask behind some
+past-seven : (c : tie.Else2) → let a = c .before .before .before .before .before .before .before .before .before .before .before .before .args in brokenNames (a .h) (a .rec .now) ≡ ask 8 (noFlowWords (a .h) (a .rec .now)) 0
+unfolding brokenNames
+past-seven c = rw (yes-of (c .before .before .before .before .before .before .before .before .starts-unnamed .ensures) (c .before .before .before .before .before .before .before .if1 .left), yes-of (plain (c .before)) (c .if2 .left))
 
 -- ---- the needs
 
@@ -37,7 +45,9 @@ from-requires : tie.Need-from-requires
 from-requires c κs = search needs
 
 starts-unnamed-requires : tie.Need-starts-unnamed-requires
-starts-unnamed-requires c κs = rising (c .before .before .before .args .h) (c .before .before .before .args .rec .now) (c .before .before .before .pre)
+starts-unnamed-requires c κs =
+    let z = c .before .before .before in
+    rising (z .args .h) (z .args .rec .now) (z .pre)
 
 returns : tie.Need-returns
 unfolding brokenNames
@@ -69,14 +79,10 @@ no-flow-words-requires : tie.Need-no-flow-words-requires
 no-flow-words-requires c κs = search needs
 
 returns-3 : tie.Need-returns-3
-unfolding brokenNames
-returns-3 c =
-    rw (yes-of (c .before .before .before .before .before .before .before .before .before .before .starts-unnamed .ensures) (c .before .before .before .before .before .before .before .before .before .if1 .left), yes-of (plain (c .before .before .before)) (c .before .before .if2 .left), no-of (wordless (c .before)) (c .if3 .taken))
+returns-3 c = rw (past-seven (c .before .before), no-of (wordless (c .before)) (c .if3 .taken))
 
 returns-4 : tie.Need-returns-4
-unfolding brokenNames
-returns-4 c =
-    rw (yes-of (c .before .before .before .before .before .before .before .before .before .before .starts-unnamed .ensures) (c .before .before .before .before .before .before .before .before .before .if1 .left), yes-of (plain (c .before .before .before)) (c .before .before .if2 .left), yes-of (wordless (c .before)) (c .if3 .left))
+returns-4 c = rw (past-seven (c .before .before), yes-of (wordless (c .before)) (c .if3 .left))
 
 pub broken-names-spec : {M : Type 1} → statement M
 broken-names-spec =

@@ -1,7 +1,5 @@
 -- The call: `check_record` meets its contract.
 -- By what the questions answer.
-use mathlib.Core.Path.{ap, _∙_}
-use Rattle.record.specs.declared.header.Header.{Header}
 use Rattle.checker.proofs.Answers.{accepted, checks-no}
 use borrow.Author.Needs.{needs}
 use Rattle.checker.proofs.check.check_record.Statement.{statement}
@@ -24,14 +22,14 @@ enum-known-h c = search needs
 
 check-accepted-requires : tie.Need-check-accepted-requires
 check-accepted-requires c κs =
-    accepted (c .before .before .before .before .before .before .before .args .rec .now) _ _ _ (c .before .before .before .before .size .ensures .0 ∙ ap (λ (h : Header). h .blocks) (c .before .before .before .before .before .read-header .ensures)) (c .before .before .before .«record» .ensures) (c .before .h .given .1)
+    accepted (c .before .before .before .before .before .before .before .args .rec .now) _ _ _ (c .before .before .before .before .before .read-header .ensures) (c .before .before .before .before .size .ensures .0) (c .before .before .before .«record» .ensures) _ (c .before .h .given .1)
 
 returns : tie.Need-returns
 returns c =
-    checks-no (c .before .before .before .before .before .before .before .args .rec .now) _ _ _ (c .before .before .before .before .size .ensures .0 ∙ ap (λ (h : Header). h .blocks) (c .before .before .before .before .before .read-header .ensures)) (c .before .before .before .«record» .ensures) (c .before .n .given .1)
+    checks-no (c .before .before .before .before .before .before .before .args .rec .now) _ _ _ (c .before .before .before .before .before .read-header .ensures) (c .before .before .before .before .size .ensures .0) (c .before .before .before .«record» .ensures) _ (c .before .n .given .1)
 
 returns-2 : tie.Need-returns-2
-returns-2 c = search needs
+returns-2 c = c .check-accepted .ensures
 
 pub check-record-spec : {M : Type 1} → statement M
 check-record-spec =
