@@ -1,4 +1,5 @@
--- What #109 assumes of a record, in its words and order. Names of mnemonics and of atlas entries may be any: tokens tell them apart.
+-- What #109 assumes of a record, in its words and order, less what the theorem does without: Case edges, which neither route follows, and
+-- names, since the kinds of tokens tell lines apart.
 use Prim.Native.Nat.{ℕ, _+_, _-_, _≤_}
 use mathlib.Core.List.{List, [], _∷_}
 use mathlib.Core.Bool.{Bool, true, false, not, _&&_, _||_}
