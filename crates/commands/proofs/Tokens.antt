@@ -2,28 +2,18 @@
 -- A line's tokens are entries one after the other, taken apart at the one asked for.
 use mathlib.Core.Path.{_≡_, sym, ap, _∙_}
 use mathlib.Core.List.{List, []}
-use Prim.Native.Nat.{ℕ, suc, _+_, _-_, _≤_, _<_}
+use Prim.Native.Nat.{ℕ, _+_, _-_, _≤_, _<_}
 use native.Mathlib.Numerals.{add-one}
 use native.Mathlib.Omega.{arith}
-use lib.ListN.{getD, List·getD-eq-default}
-use lib.Seq.{getD-at}
+use lib.ListN.{getD}
 use Rattle.lists.specs.Bytes.{u8At}
-use Rattle.lists.specs.Entries.{tab}
+use Rattle.lists.specs.Entries.{tab-at}
+use Rattle.lists.proofs.Tabs.{tab-past}
 use Rattle.tokens.specs.Token.{Token, token}
 use Rattle.tokens.specs.Lines.{endAt, between, tokenAt, lineAt}
-use Rattle.tokens.proofs.Lines.{tab-append, tab-length}
 use Rattle.rows.specs.Lists.{listsOf}
 use Rattle.rows.specs.Rows.{rowAt}
 use Rattle.commands.specs.Calls.{tokenOf}
-
--- ---- an entry of entries one after the other
-tab-in : {A : Type 0} (f : ℕ → A) (a n k : ℕ) (d : A) → k < n → getD (tab f a n) k d ≡ f (a + k)
-tab-in f a n k d h =
-    let e : n ≡ k + suc (n - suc k) = omega arith in
-    ap (λ (j : ℕ). getD (tab f a j) k d) e ∙ rw tab-append (getD-at (tab f a k) (f (a + k)) _ d k (tab-length f a k))
-
-tab-past : {A : Type 0} (f : ℕ → A) (a n k : ℕ) (d : A) → n ≤ k → getD (tab f a n) k d ≡ d
-tab-past f a n k d h = List·getD-eq-default (tab f a n) d (omega (arith, tab-length f a n))
 
 -- ---- token k of line i, whose tokens are those from n up to o
 module _ (x e c a m p l : List ℕ) (i k n o : ℕ) (g : n ≡ endAt l i) (h : o ≡ endAt l (i + 1)) where
@@ -35,7 +25,7 @@ module _ (x e c a m p l : List ℕ) (i k n o : ℕ) (g : n ≡ endAt l i) (h : o
 
   token-in : k < o - n → here ≡ tokenAt x e c (n + k)
   unfolding rowAt lineAt
-  token-in q = rw (last, ← g) (tab-in (tokenAt x e c) n (o - n) k (token 0 []) q)
+  token-in q = rw (last, ← g) (tab-at (tokenAt x e c) n (o - n) k (token 0 []) q)
 
   token-past : o - n ≤ k → here ≡ token 0 []
   unfolding rowAt lineAt

@@ -13,7 +13,7 @@ use Rattle.lists.specs.Put.{put}
 use Rattle.lists.specs.PutLaws.{put-fits}
 use Rattle.tokens.specs.Listing.{textOf}
 use Rattle.tokens.specs.Lines.{endAt, tokenAt}
-use Rattle.tokens.proofs.Lines.{tab-length}
+use Rattle.lists.proofs.Tabs.{tab-length}
 use Rattle.rows.specs.Lists.{Lists, cut, over, sizesOf, roomsOf, roomNo, Leaves}
 use Rattle.rows.specs.Rows.{rowsIn, allTokens, holdsRows}
 use Rattle.rows.specs.declared.answer.Sizes.{Sizes}

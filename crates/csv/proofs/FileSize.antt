@@ -11,7 +11,7 @@ use Rattle.text.specs.Decimal.{decimalText}
 use Rattle.tokens.specs.Token.{Token}
 use Rattle.tokens.specs.Listing.{textOf}
 use Rattle.tokens.specs.Lines.{tokenAt}
-use Rattle.tokens.proofs.Lines.{tab-length}
+use Rattle.lists.proofs.Tabs.{tab-length}
 use Rattle.tokens.proofs.ListingLaws.{text-append}
 use Rattle.rows.specs.Lists.{Lists}
 use Rattle.rows.specs.Rows.{Row, isAddressed, rowAt, rowsIn, allTokens}

@@ -10,7 +10,7 @@ use borrow.Author.Tests.{le-leb, lt-ltb}
 use Rattle.lists.specs.Every.{every}
 use Rattle.lists.specs.Entries.{tab}
 use Rattle.tokens.specs.Lines.{endAt, between, tokenAt, lineAt}
-use Rattle.tokens.proofs.Lines.{tab-length}
+use Rattle.lists.proofs.Tabs.{tab-length}
 use Rattle.rows.specs.Lists.{Lists}
 use Rattle.rows.specs.Rows.{indentOf, rowAt, rowsIn}
 use Rattle.rows.proofs.Held.{Held, row-held, kind-held, token-rise, token-inside, row-inside, between-length}

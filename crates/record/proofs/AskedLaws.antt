@@ -13,8 +13,8 @@ use Rattle.lists.specs.Below.{all-at}
 use Rattle.x86.specs.Registers.{registerExists}
 use Rattle.record.specs.declared.header.Header.{Header}
 use Rattle.record.specs.Header.{headerOf, headerFits, fieldsOk, limitsOk}
-use Rattle.record.specs.Layout.{lengthOk, marksOf, bodiesOf}
-use Rattle.record.specs.Blocks.{marksOk}
+use Rattle.record.specs.Layout.{lengthOk, startsOf, marksOf, bodiesOf}
+use Rattle.record.specs.Blocks.{marksOk, startsDiffer}
 use Rattle.record.specs.Body.{bodyAt, bodyOk, bodiesOk}
 use Rattle.record.specs.Asked.{orElse, sizesNo, marksAsked, startsAsked, edgeKindsAsked, bodiesAsked, branchesAsked, atlasAsked, spansAsked, blocksNo, contentsNo, rangeNo, firstNo}
 use Rattle.record.proofs.Bodies.{Proper, proper}
@@ -26,6 +26,23 @@ later (suc n) b h = absurd (omega arith)
 pub passed : (n : ℕ) (q : Bool) (l : ℕ) → ask (suc n) q l ≡ 0 → (q ≡ true) × (l ≡ 0)
 passed n true l h = (refl, h)
 passed n false l h = absurd (omega arith)
+
+-- ---- questions 1 to 4
+module _ (s : List ℕ) (yes : sizesNo s ≡ 0) where
+  sizes-fields : (headerFits s ≡ true) × ((fieldsOk (headerOf s) ≡ true) × (ask 3 (limitsOk (headerOf s)) (ask 4 (lengthOk (headerOf s) s) 0) ≡ 0))
+  unfolding sizesNo
+  sizes-fields =
+      let a = passed 0 (headerFits s) _ yes in
+      (a .0, passed 1 (fieldsOk (headerOf s)) _ (a .1))
+
+  pub sizes-fit : headerFits s ≡ true
+  sizes-fit = sizes-fields .0
+
+  pub sizes-limits : limitsOk (headerOf s) ≡ true
+  sizes-limits = passed 2 (limitsOk (headerOf s)) _ (sizes-fields .1 .1) .0
+
+  pub sizes-length : lengthOk (headerOf s) s ≡ true
+  sizes-length = passed 3 (lengthOk (headerOf s) s) 0 (passed 2 (limitsOk (headerOf s)) _ (sizes-fields .1 .1) .1) .0
 
 module _ (s : List ℕ) (from to : ℕ) (yes : firstNo s from to ≡ 0) where
   abbrev h : Header
@@ -41,18 +58,21 @@ module _ (s : List ℕ) (from to : ℕ) (yes : firstNo s from to ≡ 0) where
 
   -- question 3
   pub yes-limits : limitsOk h ≡ true
-  unfolding sizesNo
-  yes-limits = passed 2 (limitsOk h) (ask 4 (lengthOk h s) 0) (passed 1 (fieldsOk h) _ (passed 0 (headerFits s) _ (stages .0) .1) .1) .0
+  yes-limits = sizes-limits s (stages .0)
 
   -- question 4
   pub yes-length : lengthOk h s ≡ true
-  unfolding sizesNo
-  yes-length = passed 3 (lengthOk h s) 0 (passed 2 (limitsOk h) _ (passed 1 (fieldsOk h) _ (passed 0 (headerFits s) _ (stages .0) .1) .1) .1) .0
+  yes-length = sizes-length s (stages .0)
 
   -- question 5
   pub yes-marks : marksOk (marksOf h s) (h .blocks) (h .instructions) (h .edges) ≡ true
   unfolding blocksNo marksAsked
   yes-marks = passed 4 _ (ask 6 (startsAsked h s) (ask 7 (edgeKindsAsked h s) 0)) (stages .1) .0
+
+  -- question 6
+  pub yes-starts : startsDiffer (startsOf h s) (h .blocks) ≡ true
+  unfolding blocksNo startsAsked
+  yes-starts = passed 5 (startsAsked h s) (ask 7 (edgeKindsAsked h s) 0) (passed 4 (marksAsked h s) _ (stages .1) .1) .0
 
   -- questions 9 and 10
   abbrev texts : ℕ

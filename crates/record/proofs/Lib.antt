@@ -2,6 +2,7 @@ pub mod Stages
 pub mod Running
 pub mod Bodies
 pub mod AskedLaws
+pub mod SizeLaws
 pub mod SearchLaws
 pub mod Rising
 pub mod Halving

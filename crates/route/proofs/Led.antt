@@ -7,7 +7,7 @@ use mathlib.Core.Path.{_≡_, refl, sym, ap, _∙_}
 use native.Mathlib.Omega.{arith}
 use borrow.Author.Tests.{eqb-true, eqb-false, ltb-true, not-true}
 use lib.Dec.{eqb, leb, ltb}
-use Rattle.lists.specs.Choice.{pick, ask, sumBelow}
+use Rattle.lists.specs.Choice.{pick, sumBelow}
 use Rattle.lists.specs.Every.{both-yes}
 use Rattle.lists.specs.Below.{all-at}
 use Rattle.record.specs.declared.header.Header.{Header}
@@ -17,8 +17,8 @@ use Rattle.record.specs.Layout.{startsOf, marksOf, targetsOf, edgeKindsOf, bodi
 use Rattle.record.specs.Blocks.{startAt, edgesIn, firstEdge, targetAt, edgeKindAt, differ, startIsNew, startsDiffer}
 use Rattle.record.specs.Body.{operandNumber}
 use Rattle.record.specs.Branches.{trueCount, trueLead, branchAgrees, branchOk, branchesOk}
-use Rattle.record.specs.Asked.{sizesNo, marksAsked, startsAsked, edgeKindsAsked, branchesAsked, blocksNo, firstNo}
-use Rattle.record.proofs.AskedLaws.{later, passed, yes-branches}
+use Rattle.record.specs.Asked.{branchesAsked, firstNo}
+use Rattle.record.proofs.AskedLaws.{yes-starts, yes-branches}
 use Rattle.record.proofs.SearchLaws.{find-first, find-kept}
 use Rattle.cfg.specs.Graph.{endsInBranch, endsInJmp, branchTo, isBlock}
 use Rattle.flow.specs.Silent.{isDirectJmp}
@@ -99,18 +99,10 @@ module _ (s : List ℕ) (asked : firstNo s 0 (headerOf s .blocks) ≡ 0) where
   abbrev last : ℕ → List ℕ
   last k = lastBody h s k
 
-  -- question 6
-  pub starts-new : startsDiffer (startsOf h s) (h .blocks) ≡ true
-  unfolding firstNo blocksNo startsAsked
-  starts-new =
-      let a = later (sizesNo s) _ asked in
-      let b = later (blocksNo h s) _ (a .1) in
-      passed 5 (startsAsked h s) (ask 7 (edgeKindsAsked h s) 0) (passed 4 (marksAsked h s) _ (b .0) .1) .0
-
   pub place-of-start : (k : ℕ) → k < h .blocks → placeOf h s (startAt (startsOf h s) k) ≡ k
   unfolding placeOf startsDiffer startIsNew differ
   place-of-start k below =
-      let new = all-at (startIsNew (startsOf h s)) (h .blocks) k starts-new below in
+      let new = all-at (startIsNew (startsOf h s)) (h .blocks) k (yes-starts s 0 (h .blocks) asked) below in
       ap placeFound
       (find-first (startsOf h s) (startAt (startsOf h s) k) 0 (h .blocks) k zero-le (omega arith)
       (λ j l. eqb-false (startAt (startsOf h s) j) (startAt (startsOf h s) k) (not-true _ (all-at (differ (startsOf h s) k) k j new l)))

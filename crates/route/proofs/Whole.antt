@@ -25,7 +25,7 @@ use Rattle.route.proofs.Rules.{Runs, Addressed}
 use Rattle.route.proofs.Told.{lines-stated}
 use Rattle.route.proofs.Names.{label-test, targets-named}
 use Rattle.route.proofs.Routes.{follows}
-use Rattle.route.proofs.Led.{starts-new}
+use Rattle.record.proofs.AskedLaws.{yes-starts}
 use Rattle.route.proofs.Steps.{steps, ended}
 use Rattle.route.proofs.Premises.{rowed}
 
@@ -44,7 +44,7 @@ module _ (s : List ℕ) (accepted : firstNo s 0 (headerOf s .blocks) ≡ 0) (ass
   unfolding recordPlan contextOf gotosLabelled
   runs =
       follows (blockRows h s) (edgeRows h s) (shownRows h s) (startsOf h s) (targetsOf h s) (h .blocks) (h .indent) (nameAt h s) (targetName h s) (ownAt h s) (addressAt (addressesOf h s)) line-address
-      (rowed s accepted assumed (label-test h s (starts-new s accepted)) (targets-named s accepted (assumed .starts-unnamed))) addressed (assumed .some) (assumed .gotos-labelled)
+      (rowed s accepted assumed (label-test h s (yes-starts s 0 (h .blocks) accepted)) (targets-named s accepted (assumed .starts-unnamed))) addressed (assumed .some) (assumed .gotos-labelled)
 
   plan-followed : Followed h s seen
   plan-followed n os = let p = steps s accepted assumed (runs n os) in (p .0, p .1, ended (runs n os))

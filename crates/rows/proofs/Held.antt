@@ -18,7 +18,7 @@ use Rattle.lists.specs.Entries.{tab}
 use Rattle.tokens.specs.Token.{Token}
 use Rattle.tokens.specs.Listing.{textOf, endsFrom, kindsOf}
 use Rattle.tokens.specs.Lines.{endAt, between, tokenAt, tokensBetween, lineAt}
-use Rattle.tokens.proofs.Lines.{tab-append, tab-length}
+use Rattle.lists.proofs.Tabs.{tab-append, tab-length}
 use Rattle.tokens.proofs.ListingLaws.{cases}
 use Rattle.rows.specs.Lists.{Lists, listsOf}
 use Rattle.rows.specs.Rows.{Row, isAddressed, indentOf, rowAt, rowsIn, allTokens, tokenCounts, markOf, rowLists, tokenHeld, rowHeld, sizesWithin, holdsRows}

@@ -10,7 +10,7 @@ use lib.Seq.{take-append-seam}
 use borrow.Author.Tests.{le-leb}
 use Rattle.lists.specs.Choice.{pick}
 use Rattle.text.specs.Decimal.{decimalOf, decimalText}
-use Rattle.tokens.proofs.Lines.{tab-length}
+use Rattle.lists.proofs.Tabs.{tab-length}
 use Rattle.rows.specs.Lists.{Lists, numberOf}
 use Rattle.rows.specs.Rows.{Row, rowAt, rowsIn, rowLists, holdsRows}
 use Rattle.rows.specs.declared.answer.Sizes.{Sizes}

@@ -9,6 +9,7 @@ use native.Mathlib.Omega.{arith}
 use lib.ListN.{length, take, drop, getD, length-append}
 use lib.Seq.{take-at, drop-at, take-append-seam, drop-append-seam, getD-drop, drop-drop}
 use Rattle.lists.specs.Entries.{tab}
+use Rattle.lists.proofs.Tabs.{tab-append, tab-length}
 use Rattle.tokens.specs.Token.{Token}
 use Rattle.tokens.specs.Listing.{textOf, endsFrom, kindsOf, join, all, countsFrom}
 use Rattle.tokens.specs.Lines.{endAt, between, tokenAt, lineAt, linesIn}
@@ -23,18 +24,7 @@ behind l j a r h = ap (λ (k : ℕ). drop k l) (sym (add-one j)) ∙ sym (drop-d
 pub further : (l : List ℕ) (x : ℕ) (s r : List ℕ) → drop x l ≡ s ++ r → drop (x + length s) l ≡ r
 further l x s r h = sym (drop-drop (length s) x l) ∙ ap (drop (length s)) h ∙ drop-append-seam s r
 
--- ---- entries one after the other, in two parts
-pub tab-append : {A : Type 0} (f : ℕ → A) (a m n : ℕ) → tab f a (m + n) ≡ tab f a m ++ tab f (a + m) n
-tab-append f a zero n = rw (zero-add, add-zero)
-tab-append f a (suc m) n =
-    let e : suc m + n ≡ suc (m + n) = omega arith in
-    let d : suc a + m ≡ a + suc m = omega arith in
-    rw e (ap (λ l. f a ∷ l) (tab-append f (suc a) m n ∙ rw d))
-
-pub tab-length : {A : Type 0} (f : ℕ → A) (a n : ℕ) → length (tab f a n) ≡ n
-tab-length f a zero = refl
-tab-length f a (suc n) = ap suc (tab-length f (suc a) n)
-
+-- ---- two lists that are equal in two parts
 left-part : {A : Type 0} (s t u v : List A) → length s ≡ length u → s ++ t ≡ u ++ v → s ≡ u
 left-part s t u v e q = sym (take-at s t (length u) e) ∙ ap (take (length u)) q ∙ take-append-seam u v
 
