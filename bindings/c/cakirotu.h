@@ -1,6 +1,6 @@
 /* Cakirotu's library for C: lists blocks of a record as pseudocode, says whether such a listing may be followed, writes and reads listings as
- * rows for a spreadsheet, gives a string back from its literal in a listing, and makes a listing's command table for a keyer. docs/BINDINGS.md
- * says how to build and link.
+ * rows for a spreadsheet, gives a string back from its literal in a listing, makes a listing's command table for a keyer, and puts a record's
+ * instructions by columns for a store. docs/BINDINGS.md says how to build and link.
  *
  * No function allocates, keeps a pointer, or holds state between calls; threads may call at once. Any bytes may be lent as
  * a record, as rows or as a literal, and any lists as a listing: every call ends with what is asked for or with a number. Nothing is read or stored
@@ -35,7 +35,7 @@ enum cakirotu_answer {
     CAKIROTU_NO_ATLAS = 9,         /* do atlas addresses rise, do lengths total the header's, are texts as they may be? */
     CAKIROTU_NO_SPANS = 10,        /* is each span's first address at most its last? */
     CAKIROTU_NO_RANGE = 11,        /* from <= to <= the record's blocks? */
-    CAKIROTU_NO_TEXT_ROOM = 12,    /* is the list for text, or for bytes, long enough? */
+    CAKIROTU_NO_TEXT_ROOM = 12,    /* is the list for text, for bytes, or for a record by columns, long enough? */
     CAKIROTU_NO_TOKEN_ROOM = 13,   /* are ends and kinds, or a table's rows? */
     CAKIROTU_NO_LINE_ROOM = 14,    /* are addresses, marks, places and lines, or a table's addresses? */
     CAKIROTU_NO_BRANCHES = 15,     /* asked between 8 and 9: has each block that ends in a conditional near branch one True edge,
@@ -202,6 +202,29 @@ uint8_t cakirotu_command_table(const uint8_t *text, size_t text_len, const uint3
                                size_t sizes_len, const uint8_t *call, size_t call_len, const uint8_t *reg, size_t reg_len, uint8_t *bytes,
                                size_t bytes_len, uint64_t *rows, size_t rows_len, uint64_t *calls, size_t calls_len, uint64_t *counts,
                                size_t counts_len);
+
+/* The most bytes that a record has. */
+#define CAKIROTU_RECORD_BYTES 64336
+
+/* Puts a record's instruction bodies by columns, so that like bytes stand together for a store that compresses: byte 0 of every body, then byte 1 of
+ * every body, up to byte 91. All else is where it was, and the length is the same.
+ *
+ * Only the first four questions are asked, then whether `out` is long enough: a record that cakirotu_list refuses with 5 or more is stored too.
+ * With 0 `out` holds the record by columns and its bytes past it are as they were; with a number it is as it was and the size is 0.
+ * Answers 0, CAKIROTU_NO_HEADER, _SETTINGS, _LIMITS or _LENGTH, or CAKIROTU_NO_TEXT_ROOM.
+ *
+ * rec   the record's bytes
+ * out   gets the record by columns; as many bytes as the record has suffice, and so do CAKIROTU_RECORD_BYTES
+ * size  gets how many bytes that are, in its first entry; a list without entries is as it was */
+uint8_t cakirotu_to_columns(const uint8_t *rec, size_t rec_len, uint8_t *out, size_t out_len, uint64_t *size, size_t size_len);
+
+/* The way back: what cakirotu_to_columns stored comes back byte for byte. The same questions are asked and the same holds of `out` and `size`. Nothing
+ * in the bytes tells which of both orders they are in: a caller who asks for the way back of a record that is not by columns gets other bytes, from
+ * which cakirotu_to_columns gives the record again.
+ *
+ * rec   a record by columns
+ * out   gets the record */
+uint8_t cakirotu_from_columns(const uint8_t *rec, size_t rec_len, uint8_t *out, size_t out_len, uint64_t *size, size_t size_len);
 
 #ifdef __cplusplus
 }

@@ -82,7 +82,10 @@ static size_t read_record(const char *name, uint8_t rec[MOST_RECORD]) {
     return len;
 }
 
-static uint8_t list(const uint8_t *rec, size_t len, size_t from, size_t to, const struct lists *l, uint64_t *sizes, size_t n) {
+/* A number of a record's header. */
+static inline size_t u16_at(const uint8_t *rec, size_t at) { return (size_t)rec[at] | (size_t)rec[at + 1] << 8; }
+
+static inline uint8_t list(const uint8_t *rec, size_t len, size_t from, size_t to, const struct lists *l, uint64_t *sizes, size_t n) {
     return cakirotu_list(rec, len, from, to, l->at[0], l->len[0], l->at[1], l->len[1], l->at[2], l->len[2], l->at[3], l->len[3], l->at[4],
                          l->len[4], l->at[5], l->len[5], l->at[6], l->len[6], sizes, n);
 }
@@ -101,7 +104,7 @@ static inline uint8_t read_rows(const uint8_t *file, size_t len, const struct li
 static const size_t NONE[LISTS];
 
 /* The lengths that a listing of these sizes needs. */
-static void exact(const uint64_t sizes[CAKIROTU_SIZES], size_t len[LISTS]) {
+static inline void exact(const uint64_t sizes[CAKIROTU_SIZES], size_t len[LISTS]) {
     static const int which[LISTS] = {CAKIROTU_TEXT_BYTES, CAKIROTU_TOKENS, CAKIROTU_TOKENS, CAKIROTU_LINES,
                                      CAKIROTU_LINES,      CAKIROTU_LINES,  CAKIROTU_LINES};
     for (int i = 0; i < LISTS; i++) {

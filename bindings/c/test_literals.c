@@ -220,8 +220,6 @@ struct atlas {
     const uint8_t *marks, *text;
 };
 
-static size_t u16_at(const uint8_t *rec, size_t at) { return (size_t)rec[at] | (size_t)rec[at + 1] << 8; }
-
 static struct atlas atlas_of(const uint8_t *rec) {
     size_t blocks = u16_at(rec, 4), insns = u16_at(rec, 6), edges = u16_at(rec, 8), entries = u16_at(rec, 10), spans = u16_at(rec, 12);
     const uint8_t *marks = rec + 24 + 12 * blocks + 9 * edges + 100 * insns + 8 * entries;

@@ -1,4 +1,4 @@
-//! The seven functions of libabi.a. All unsafe code is here.
+//! The nine functions of libabi.a. All unsafe code is here.
 
 use crate::{Blocks, Held, Listed, Lists, Names, Refusal, Sizes, TableLists};
 
@@ -117,6 +117,11 @@ extern "C" {
         counts: *mut u64,
         counts_len: usize,
     ) -> u8;
+
+    fn cakirotu_to_columns(rec: *const u8, rec_len: usize, out: *mut u8, out_len: usize, size: *mut u64, size_len: usize) -> u8;
+
+    fn cakirotu_from_columns(rec: *const u8, rec_len: usize, out: *mut u8, out_len: usize, size: *mut u64, size_len: usize)
+        -> u8;
 }
 
 /// What no call leaves: every call writes its sizes, looks, values or counts.
@@ -275,6 +280,25 @@ pub fn command_table(l: &Held<'_>, sizes: Sizes, names: Names<'_>, table: &mut T
         )
     };
     checked(no, counts)
+}
+
+/// How many bytes the record by columns has.
+pub fn to_columns(record: &[u8], out: &mut [u8]) -> Result<usize, Refusal> {
+    let mut size = [UNWRITTEN];
+    // The function is total: it reads the record alone and stores nothing past `out` and the one entry, which as `&mut` are apart.
+    let no =
+        unsafe { cakirotu_to_columns(record.as_ptr(), record.len(), out.as_mut_ptr(), out.len(), size.as_mut_ptr(), size.len()) };
+    checked(no, size).map(|[size]| size)
+}
+
+/// The way back.
+pub fn from_columns(stored: &[u8], out: &mut [u8]) -> Result<usize, Refusal> {
+    let mut size = [UNWRITTEN];
+    // The function is total: it reads the stored record alone and stores nothing past `out` and the one entry, which as `&mut` are apart.
+    let no = unsafe {
+        cakirotu_from_columns(stored.as_ptr(), stored.len(), out.as_mut_ptr(), out.len(), size.as_mut_ptr(), size.len())
+    };
+    checked(no, size).map(|[size]| size)
 }
 
 fn numbers(sizes: Sizes) -> [u64; 3] {

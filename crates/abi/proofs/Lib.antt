@@ -1,3 +1,4 @@
+pub mod Cases
 pub mod Exports
 pub mod Rows
 pub mod Strings

@@ -1,11 +1,10 @@
 -- What the two calls for rows answer and leave is what their definitions say.
 -- The size of a file is the first entry of its list, and the answer has it and the number.
-use mathlib.Core.Path.{_≡_, sym, ap, subst, _∙_}
+use mathlib.Core.Path.{_≡_, ap, subst, _∙_}
 use mathlib.Core.List.{List, [], _∷_}
 use Prim.Native.Nat.{ℕ}
-use lib.ListN.{getD, set}
+use lib.ListN.{getD}
 use Rattle.lists.specs.Put.{put}
-use Rattle.lists.specs.PutLaws.{put-cons, put-none}
 use Rattle.rows.specs.Lists.{Lists}
 use Rattle.rows.specs.declared.answer.Sizes.{Sizes}
 use Rattle.csv.specs.Called.{writtenNumber, writtenSize, Writes}
@@ -14,10 +13,6 @@ use Rattle.abi.specs.Rows.{sizesIn, written, RowsWritten}
 
 pub sizes-read : (z : List ℕ) (x n m : ℕ) → x ≡ getD z 0 0 → n ≡ getD z 1 0 → m ≡ getD z 2 0 → record { text = x; tokens = n; lines = m } ≡ sizesIn z
 sizes-read z x n m p q r = rw (p, q, r)
-
--- what is stored for a case is stored for the answer that is that case
-pub written-put : (g r : Written) (z z′ : List ℕ) → g ≡ r → z′ ≡ set z 0 (writtenSize r) → (writtenNumber r ≡ writtenNumber g) × (z′ ≡ put 0 (writtenSize g ∷ []) z)
-written-put g r z z′ h q = (ap writtenNumber (sym h), q ∙ rw (h, put-cons, put-none))
 
 pub rows-written : (l : Lists) (z out out′ n n′ : List ℕ) (y : Sizes) (g : Written) (r : ℕ) → y ≡ sizesIn z → Writes l y out out′ g → r ≡ writtenNumber g
     → n′ ≡ put 0 (writtenSize g ∷ []) n → RowsWritten l z out out′ n n′ r

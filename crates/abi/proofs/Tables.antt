@@ -1,6 +1,6 @@
 -- What the call for the command table answers and leaves is what its definition says.
--- Two stores, one behind the other; the counts of an answer are those that are stored for its case.
-use mathlib.Core.Path.{_≡_, sym, ap, subst, _∙_}
+-- Two stores, one behind the other.
+use mathlib.Core.Path.{_≡_, ap, subst, _∙_}
 use mathlib.Core.List.{List, [], _∷_}
 use Prim.Native.Nat.{ℕ}
 use lib.ListN.{set}
@@ -16,10 +16,6 @@ use Rattle.abi.specs.Tables.{countList, TableMade}
 
 pub put-two : (a b : ℕ) (z z₁ z₂ : List ℕ) → z₁ ≡ set z 0 a → z₂ ≡ set z₁ 1 b → z₂ ≡ put 0 (a ∷ b ∷ []) z
 put-two a b z z₁ z₂ p q = q ∙ rw (p, put-cons, put-cons, put-none)
-
--- what is stored for a case is stored for the answer that is that case
-pub counts-put : (g r : Tabled) (n n′ : List ℕ) → g ≡ r → n′ ≡ put 0 (countList r) n → (numberOf r ≡ numberOf g) × (n′ ≡ put 0 (countList g) n)
-counts-put g r n n′ h q = (ap numberOf (sym h), q ∙ rw h)
 
 module _ (l : Lists) (z call register : List ℕ) (b a : Table) (n n′ : List ℕ) where
   pub table-made : (y : Sizes) (g : Tabled) (r : ℕ) → y ≡ sizesIn z → Makes l y call register b a g → r ≡ numberOf g → n′ ≡ put 0 (countList g) n

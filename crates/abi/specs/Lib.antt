@@ -3,3 +3,4 @@ pub mod Rows
 pub mod Strings
 pub mod Tables
 pub mod Checks
+pub mod Stores

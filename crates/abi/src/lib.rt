@@ -3,5 +3,6 @@ pub mod check;
 pub mod export;
 pub mod file;
 mod sizes;
+pub mod store;
 pub mod string;
 pub mod table;

@@ -5,10 +5,12 @@ use mathlib.Core.Bool.{true}
 use mathlib.Core.List.{List, [], _∷_, _++_}
 use Prim.Native.Nat.{ℕ, zero, suc, _-_, _*_, _%_}
 use lib.Dec.{ltb}
-use lib.ListN.{length, getD, replicate}
+use lib.ListN.{length, take, getD, replicate}
 use lib.Seq.{slice}
 use Rattle.lists.specs.Ascii.{ascii}
 use Rattle.lists.specs.Choice.{pick}
+use Rattle.lists.specs.declared.stored.Stored.{Stored}
+use Rattle.lists.specs.declared.stored.Stored.the-variants.{Bytes, No}
 use Rattle.text.specs.Number.{hexText}
 use Rattle.text.specs.Decimal.{decimalText}
 use Rattle.rows.specs.Lists.{Lists}
@@ -27,6 +29,16 @@ countLine n = numbered (ascii "lines=") n
 -- "`no` and the number", as in `no 12`
 abbrev pub refusal : ℕ → List ℕ
 refusal n = numbered (ascii "no ") n
+
+-- "prints `no` and the number, or the lines below": what a program prints, by its number, 0 where it has something to show
+abbrev pub outputFor : ℕ → List ℕ → List ℕ
+outputFor zero text = text
+outputFor (suc n) text = refusal (suc n)
+
+-- the same of a call that stores bytes from the start of the list e on
+abbrev pub storedOutput : Stored → List ℕ → List ℕ
+storedOutput (Bytes n) e = take n e
+storedOutput (No k) e = refusal k
 
 -- "address (sixteen upper hex digits, or dashes if none)": a line has one if its mark is 256 or more; 48 is '0', 45 is '-'
 unfoldable pub addressText : ℕ → ℕ → List ℕ

@@ -19,8 +19,8 @@ use Rattle.rows.specs.declared.answer.Answer.the-variants.{Listed, No}
 use Rattle.pseudo.specs.Listed.{lineAddress, lineMark, linePlace, recordLines, recordLists}
 use Rattle.pseudo.specs.Called.{sizes, callNo, Called}
 use Rattle.pseudo.proofs.Answers.{printed-length}
-use Rattle.page.specs.Page.{refusal}
-use Rattle.program.specs.Output.{programRooms, outputFor, programNo, outputText}
+use Rattle.page.specs.Page.{refusal, outputFor}
+use Rattle.program.specs.Output.{programRooms, programNo, outputText}
 
 refused-output : (m : ℕ) (d : Sizes) (n : ℕ) (text : List ℕ) → No m ≡ answerFor d n → outputFor n text ≡ refusal m
 refused-output m d zero text e = absurd (refused-some m d 0 e refl)

@@ -10,8 +10,8 @@ use Rattle.rows.specs.Lists.{Lists}
 use Rattle.pseudo.proofs.Promises.{call-within}
 use Rattle.text.specs.Decimal.{decimalOf}
 use Rattle.text.proofs.DecimalLaws.{decimal-one, decimal-more}
-use Rattle.page.specs.Page.{numbered, refusal}
-use Rattle.program.specs.Output.{programRooms, outputFor, blocks, programNo, wholeLists, outputText, Prints}
+use Rattle.page.specs.Page.{numbered, refusal, outputFor}
+use Rattle.program.specs.Output.{programRooms, blocks, programNo, wholeLists, outputText, Prints}
 use Rattle.program.proofs.Long.{long-refused, judged}
 use Rattle.program.proofs.Suffice.{not-14}
 

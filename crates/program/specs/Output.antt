@@ -1,5 +1,5 @@
 -- What a program that reads a record prints: "takes the whole range, and prints `no` and the number, or the lines below".
-use Prim.Native.Nat.{ℕ, zero, suc, _≤_, _<_}
+use Prim.Native.Nat.{ℕ, _≤_, _<_}
 use mathlib.Core.List.{List}
 use mathlib.Core.Path.{_≡_}
 use lib.ListN.{length, take}
@@ -8,16 +8,11 @@ use Rattle.rows.specs.declared.answer.Rooms.{Rooms}
 use Rattle.record.specs.Header.{headerOf}
 use Rattle.pseudo.specs.Listed.{recordLists}
 use Rattle.pseudo.specs.Called.{callNo}
-use Rattle.page.specs.Page.{refusal}
+use Rattle.page.specs.Page.{refusal, outputFor}
 
 -- "A listing over 65,536 text bytes is `no 12`, over 16,384 tokens `no 13`; 900 lines always suffice."
 abbrev pub programRooms : Rooms
 programRooms = record { text = 65536; ends = 16384; kinds = 16384; addresses = 900; marks = 900; places = 900; lines = 900 }
-
--- the number, or what is shown of the listing
-abbrev pub outputFor : ℕ → List ℕ → List ℕ
-outputFor zero text = text
-outputFor (suc n) text = refusal (suc n)
 
 module _ (s : List ℕ) where
   -- "the whole range": from 0 to the header's count of blocks

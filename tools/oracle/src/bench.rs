@@ -1,5 +1,6 @@
 //! The port's speed against the Rust's, on the same records, in one run.
 
+pub mod columns;
 pub mod rows;
 
 use std::hint::black_box;

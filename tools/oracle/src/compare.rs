@@ -1,6 +1,7 @@
 //! The comparisons. Each ends with the line `WHAT: N compared, M differ`.
 
 mod answers;
+pub mod columns;
 pub mod literals;
 pub mod routes;
 pub mod rows;
@@ -37,6 +38,7 @@ pub const COMPARISONS: &[(&str, Comparison)] = &[
     ("literals", literals::literals),
     ("tables", tables::tables),
     ("routes", routes::routes),
+    ("columns", columns::columns),
     ("sanity", sanity),
 ];
 

@@ -1,4 +1,4 @@
-//! What the port's library exports for the comparison alone, and two functions of the product's that the comparison calls as C does. It is the
+//! What the port's library exports for the comparison alone, and four functions of the product's that the comparison calls as C does. It is the
 //! archive that the crate `cakirotu` links.
 
 use crate::pieces::Tokens;
@@ -31,6 +31,10 @@ extern "C" {
     ) -> u8;
 
     fn cakirotu_check(rec: *const u8, len: usize, broken: *mut u64, broken_len: usize) -> u8;
+
+    fn cakirotu_to_columns(rec: *const u8, len: usize, out: *mut u8, out_len: usize, size: *mut u64, size_len: usize) -> u8;
+
+    fn cakirotu_from_columns(rec: *const u8, len: usize, out: *mut u8, out_len: usize, size: *mut u64, size_len: usize) -> u8;
 }
 
 /// The first question of a record and a range that gets a no, or 0.
@@ -77,4 +81,16 @@ pub fn read_literal(kind: u8, text: &[u8], out: &mut [u8], values: &mut [u64]) -
 pub fn check(bytes: &[u8], broken: &mut [u64]) -> u8 {
     // The function is total: it reads the record alone and stores nothing past the list.
     unsafe { cakirotu_check(bytes.as_ptr(), bytes.len(), broken.as_mut_ptr(), broken.len()) }
+}
+
+/// A record by columns. The binding always lends one entry for the size; here there may be any number.
+pub fn to_columns(record: &[u8], out: &mut [u8], size: &mut [u64]) -> u8 {
+    // The function is total: it reads the record alone and stores nothing past the two lists.
+    unsafe { cakirotu_to_columns(record.as_ptr(), record.len(), out.as_mut_ptr(), out.len(), size.as_mut_ptr(), size.len()) }
+}
+
+/// The way back, likewise.
+pub fn from_columns(record: &[u8], out: &mut [u8], size: &mut [u64]) -> u8 {
+    // The function is total: it reads the record alone and stores nothing past the two lists.
+    unsafe { cakirotu_from_columns(record.as_ptr(), record.len(), out.as_mut_ptr(), out.len(), size.as_mut_ptr(), size.len()) }
 }

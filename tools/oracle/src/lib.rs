@@ -1,6 +1,7 @@
 //! What the port is compared with: the unchanged Rust emitter over a record, the amended one where document 02 departs from it, and the
-//! questions, rows, literals, command tables, looks and routes of documents 01 and 02 written a second time.
+//! questions, rows, literals, command tables, looks, routes and columns of documents 01 and 02 written a second time.
 
+pub mod columns;
 pub mod compare;
 pub mod damage;
 pub mod demand3;

@@ -5,7 +5,7 @@ use std::process::ExitCode;
 
 use oracle::rows::{self, programs};
 use oracle::tables;
-use oracle::{compare, listing, questions, record, replay};
+use oracle::{columns, compare, listing, questions, record, replay};
 
 const USAGE: &str = "usage: oracle list FILE [FROM TO]     the Rust's listing of a record (- for standard input)
        oracle to-csv FILE            the rows of that listing, as the program to_csv prints them
@@ -14,6 +14,10 @@ const USAGE: &str = "usage: oracle list FILE [FROM TO]     the Rust's listing of
        oracle rows-fields SEED       its fields, in hexadecimal
        oracle keyer FILE             the command table of names and rows, as the program keyer prints it
        oracle keyer-input SEED       a generated input of that program, to standard output
+       oracle to-columns FILE        a record by columns, as the program to_columns prints it
+       oracle from-columns FILE      the way back, as the program from_columns prints it
+       oracle columns-input SEED     a generated input of these programs, to standard output
+       oracle columns-folder SET FOLDER  records as they are and by columns, for compressors
        oracle example                the record of document 01's example, to standard output
        oracle questions SEED COUNT   compare the port's questions of a record and a range
        oracle pieces SEED COUNT      compare the port's operands, memory operands and conditions with the Rust's
@@ -23,10 +27,13 @@ const USAGE: &str = "usage: oracle list FILE [FROM TO]     the Rust's listing of
        oracle literals SEED COUNT    compare the strings that the port reads out of literals with the second implementation's
        oracle tables SEED COUNT      compare the port's command tables with the second implementation's
        oracle routes SEED COUNT      compare the listing's route with the processor's, and the port's check of a record with the second one
+       oracle columns SEED COUNT     compare the port's records by columns and back with the second implementation's
        oracle sanity SEED COUNT      generated records against the questions, the Rust and demand 3
        oracle bench [SET rust|port]  the port's speed against the Rust's; one listing each of a set's records
        oracle bench-rows FOLDER      the port's speed with rows and tables, and the files into a folder
        oracle bench-rows SET WAY     one call for each listing of a set, to write, to read or to make a table
+       oracle bench-columns          the port's speed with records by columns, and that of a copy
+       oracle bench-columns SET WAY  one call for each record of a set
        oracle record SEED            a generated record, to standard output
        oracle replay COUNT SEED      calls with their answers for the replay program, to standard output";
 
@@ -43,6 +50,10 @@ fn main() -> ExitCode {
         ["rows-fields", seed] => number(seed).and_then(|s| write(programs::fields(&rows::any::many(s as u64)).as_bytes())),
         ["keyer", file] => read(file).and_then(|bytes| write(&tables::programs::keyer(&bytes))),
         ["keyer-input", seed] => number(seed).and_then(|s| write(&tables::programs::input(s as u64)?)),
+        ["to-columns", file] => read(file).and_then(|bytes| write(&columns::programs::to_columns(&bytes))),
+        ["from-columns", file] => read(file).and_then(|bytes| write(&columns::programs::from_columns(&bytes))),
+        ["columns-input", seed] => number(seed).and_then(|s| write(&columns::any::input(s))),
+        ["columns-folder", set, folder] => columns::folder::keep(set, folder),
         ["example"] => write(&record::example().to_bytes()),
         ["record", seed] => number(seed).and_then(|s| write(&compare::record(s as u64))),
         ["replay", count, seed] => number(count).and_then(|n| number(seed).and_then(|s| write(&replay::corpus(n, s as u64)?))),
@@ -54,6 +65,10 @@ fn main() -> ExitCode {
         ["bench-rows", folder] => oracle::bench::rows::run(folder),
         #[cfg(feature = "abi")]
         ["bench-rows", set, way] => oracle::bench::rows::once(set, way),
+        #[cfg(feature = "abi")]
+        ["bench-columns"] => oracle::bench::columns::run(),
+        #[cfg(feature = "abi")]
+        ["bench-columns", set, way] => oracle::bench::columns::once(set, way),
         #[cfg(feature = "abi")]
         ["bench", set, "rust"] => oracle::bench::once(set, true),
         #[cfg(feature = "abi")]

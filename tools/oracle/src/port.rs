@@ -3,6 +3,7 @@
 #[cfg(test)]
 pub mod second;
 
+use crate::columns::Rearranger;
 use crate::lists::{Answer, Left, Lists};
 use crate::literals::Reader;
 use crate::pieces::Tokens;
@@ -24,6 +25,8 @@ pub struct Port {
     pub command_table: Maker,
     /// A record, and a list for the assumption that it breaks first.
     pub check: fn(&[u8], &mut [u64]) -> u8,
+    pub to_columns: Rearranger,
+    pub from_columns: Rearranger,
 }
 
 #[cfg(feature = "comparison")]
@@ -39,6 +42,8 @@ pub fn linked() -> Result<Port, String> {
         read_literal: exports::read_literal,
         command_table,
         check: exports::check,
+        to_columns: exports::to_columns,
+        from_columns: exports::from_columns,
     })
 }
 

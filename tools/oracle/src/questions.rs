@@ -33,8 +33,12 @@ pub fn numbers() -> [u8; 12] {
 
 /// The number of the first question that gets a no; 0 if all get a yes.
 pub fn first_no(bytes: &[u8], from: usize, to: usize) -> u8 {
-    let asked = Asked { bytes, from, to };
-    QUESTIONS.iter().find(|(_, yes)| !yes(&asked)).map_or(0, |(number, _)| *number)
+    Asked { bytes, from, to }.first_no(&QUESTIONS)
+}
+
+/// The same of the first four questions alone, which are of the header and the length.
+pub fn first_no_of_four(bytes: &[u8]) -> u8 {
+    Asked { bytes, from: 0, to: 0 }.first_no(&QUESTIONS[..4])
 }
 
 /// The numbers of all questions that get a no. Past a no to question 4 this is only a rough measure.
@@ -44,6 +48,10 @@ pub fn every_no(bytes: &[u8], from: usize, to: usize) -> Vec<u8> {
 }
 
 impl Asked<'_> {
+    fn first_no(&self, questions: &[(u8, Question)]) -> u8 {
+        questions.iter().find(|(_, yes)| !yes(self)).map_or(0, |(number, _)| *number)
+    }
+
     fn u8(&self, at: usize) -> u8 {
         self.bytes.get(at).copied().unwrap_or(0)
     }

@@ -4,7 +4,7 @@ use super::Port;
 use crate::lists::{fitting, Answer, Lists, TOO_SHORT};
 use crate::pieces::Tokens;
 use crate::record::Record;
-use crate::{listing, literals, looks, questions, routes, rows, tables};
+use crate::{columns, listing, literals, looks, questions, routes, rows, tables};
 
 pub fn second() -> Port {
     Port {
@@ -17,6 +17,8 @@ pub fn second() -> Port {
         read_literal: literals::read,
         command_table: tables::make,
         check: routes::assumed::check,
+        to_columns: columns::to_columns,
+        from_columns: columns::from_columns,
     }
 }
 

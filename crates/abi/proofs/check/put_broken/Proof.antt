@@ -1,21 +1,11 @@
 -- `put_broken` meets its contract.
 -- By the answer's case.
-use mathlib.Core.Path.{_≡_, sym, ap, _∙_}
-use mathlib.Core.List.{List, [], _∷_}
-use Prim.Native.Nat.{ℕ}
-use lib.ListN.{set}
-use Rattle.lists.specs.Put.{put}
-use Rattle.lists.specs.PutLaws.{put-cons, put-none}
 use Rattle.checker.specs.Called.{numberOf, brokenOf}
-use Rattle.checker.specs.declared.check.Checked.{Checked}
 use Rattle.checker.specs.declared.check.Checked.the-variants.{Follows, Broken, No}
+use Rattle.abi.proofs.Cases.{case-set}
 use borrow.Author.Needs.{needs}
 use Rattle.abi.proofs.check.put_broken.Statement.{statement}
 use Rattle.abi.proofs.check.put_broken.Tie as tie
-
--- what is stored for a case is stored for the answer that is that case
-broken-put : (g r : Checked) (z z′ : List ℕ) → g ≡ r → z′ ≡ set z 0 (brokenOf r) → (numberOf r ≡ numberOf g) × (z′ ≡ put 0 (brokenOf g ∷ []) z)
-broken-put g r z z′ h q = (ap numberOf (sym h), q ∙ rw (h, put-cons, put-none))
 
 enum-told : tie.Need-enum-told
 enum-told c = search needs
@@ -42,19 +32,19 @@ same-length : tie.Need-same-length
 same-length c = search needs
 
 returns : tie.Need-returns
-returns c = broken-put _ Follows _ _ (c .before .before .before .before .enum-told .given .1) (c .before .before .store-u64 .ensures)
+returns c = case-set numberOf brokenOf _ Follows _ _ (c .before .before .before .before .enum-told .given .1) (c .before .before .store-u64 .ensures)
 
 same-length-2 : tie.Need-same-length-2
 same-length-2 c = search needs
 
 returns-2 : tie.Need-returns-2
-returns-2 c = broken-put _ (Broken _) _ _ (c .before .before .before .before .before .answer .given .1) (c .before .before .store-u642 .ensures)
+returns-2 c = case-set numberOf brokenOf _ (Broken _) _ _ (c .before .before .before .before .before .answer .given .1) (c .before .before .store-u642 .ensures)
 
 same-length-3 : tie.Need-same-length-3
 same-length-3 c = search needs
 
 returns-3 : tie.Need-returns-3
-returns-3 c = broken-put _ (No _) _ _ (c .before .before .before .before .before .answer2 .given .1) (c .before .before .store-u643 .ensures)
+returns-3 c = case-set numberOf brokenOf _ (No _) _ _ (c .before .before .before .before .before .answer2 .given .1) (c .before .before .store-u643 .ensures)
 
 pub put-broken-spec : {M : Type 1} → statement M
 put-broken-spec =

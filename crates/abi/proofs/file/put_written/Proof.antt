@@ -1,7 +1,8 @@
 -- `put_written` meets its contract.
 -- By the answer's case.
+use Rattle.csv.specs.Called.{writtenNumber, writtenSize}
 use Rattle.csv.specs.declared.writing.Written.the-variants.{File, No}
-use Rattle.abi.proofs.Rows.{written-put}
+use Rattle.abi.proofs.Cases.{case-set}
 use borrow.Author.Needs.{needs}
 use Rattle.abi.proofs.file.put_written.Statement.{statement}
 use Rattle.abi.proofs.file.put_written.Tie as tie
@@ -22,13 +23,13 @@ same-length : tie.Need-same-length
 same-length c = search needs
 
 returns : tie.Need-returns
-returns c = written-put _ (File _) _ _ (c .before .before .before .before .before .answer .given .1) (c .before .before .store-u64 .ensures)
+returns c = case-set writtenNumber writtenSize _ (File _) _ _ (c .before .before .before .before .before .answer .given .1) (c .before .before .store-u64 .ensures)
 
 same-length-2 : tie.Need-same-length-2
 same-length-2 c = search needs
 
 returns-2 : tie.Need-returns-2
-returns-2 c = written-put _ (No _) _ _ (c .before .before .before .before .before .answer2 .given .1) (c .before .before .store-u642 .ensures)
+returns-2 c = case-set writtenNumber writtenSize _ (No _) _ _ (c .before .before .before .before .before .answer2 .given .1) (c .before .before .store-u642 .ensures)
 
 pub put-written-spec : {M : Type 1} → statement M
 put-written-spec =

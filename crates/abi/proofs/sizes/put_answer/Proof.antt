@@ -1,20 +1,12 @@
 -- `put_answer` meets its contract.
 -- By the answer's case.
-use mathlib.Core.Path.{_≡_, sym, ap, _∙_}
-use Prim.Native.Nat.{ℕ}
-use mathlib.Core.List.{List}
-use Rattle.lists.specs.Put.{put}
 use Rattle.rows.specs.Lists.{numberOf}
-use Rattle.rows.specs.declared.answer.Answer.{Answer}
 use Rattle.rows.specs.declared.answer.Answer.the-variants.{Listed, No}
 use Rattle.abi.specs.Exported.{sizeList}
+use Rattle.abi.proofs.Cases.{case-put}
 use borrow.Author.Needs.{needs}
 use Rattle.abi.proofs.sizes.put_answer.Statement.{statement}
 use Rattle.abi.proofs.sizes.put_answer.Tie as tie
-
--- what is put for a case is put for the answer that is that case
-answer-put : (g r : Answer) (z z′ : List ℕ) → g ≡ r → z′ ≡ put 0 (sizeList r) z → (numberOf r ≡ numberOf g) × (z′ ≡ put 0 (sizeList g) z)
-answer-put g r z z′ h q = (ap numberOf (sym h), q ∙ ap (λ (g : Answer). put 0 (sizeList g) z) (sym h))
 
 enum-known-answer : tie.Need-enum-known-answer
 enum-known-answer c = search needs
@@ -32,13 +24,13 @@ same-length : tie.Need-same-length
 same-length c = search needs
 
 returns : tie.Need-returns
-returns c = answer-put _ (Listed _) _ _ ((c .before .before .before .before .before .answer) .given .1) ((c .before .before .put-three) .ensures)
+returns c = case-put numberOf sizeList _ (Listed _) _ _ ((c .before .before .before .before .before .answer) .given .1) ((c .before .before .put-three) .ensures)
 
 same-length-2 : tie.Need-same-length-2
 same-length-2 c = search needs
 
 returns-2 : tie.Need-returns-2
-returns-2 c = answer-put _ (No _) _ _ ((c .before .before .before .before .before .answer2) .given .1) ((c .before .before .put-three2) .ensures)
+returns-2 c = case-put numberOf sizeList _ (No _) _ _ ((c .before .before .before .before .before .answer2) .given .1) ((c .before .before .put-three2) .ensures)
 
 pub put-answer-spec : {M : Type 1} → statement M
 put-answer-spec =

@@ -1,7 +1,9 @@
 -- `put_counts` meets its contract.
 -- By the answer's case.
+use Rattle.commands.specs.Called.{numberOf}
 use Rattle.commands.specs.declared.table.Tabled.the-variants.{Entries, No}
-use Rattle.abi.proofs.Tables.{counts-put}
+use Rattle.abi.specs.Tables.{countList}
+use Rattle.abi.proofs.Cases.{case-put}
 use borrow.Author.Needs.{needs}
 use Rattle.abi.proofs.table.put_counts.Statement.{statement}
 use Rattle.abi.proofs.table.put_counts.Tie as tie
@@ -22,13 +24,13 @@ same-length : tie.Need-same-length
 same-length c = search needs
 
 returns : tie.Need-returns
-returns c = counts-put _ (Entries _ _) _ _ (c .before .before .before .before .before .answer .given .1) (c .before .before .put-two .ensures)
+returns c = case-put numberOf countList _ (Entries _ _) _ _ (c .before .before .before .before .before .answer .given .1) (c .before .before .put-two .ensures)
 
 same-length-2 : tie.Need-same-length-2
 same-length-2 c = search needs
 
 returns-2 : tie.Need-returns-2
-returns-2 c = counts-put _ (No _) _ _ (c .before .before .before .before .before .answer2 .given .1) (c .before .before .put-two2 .ensures)
+returns-2 c = case-put numberOf countList _ (No _) _ _ (c .before .before .before .before .before .answer2 .given .1) (c .before .before .put-two2 .ensures)
 
 pub put-counts-spec : {M : Type 1} → statement M
 put-counts-spec =

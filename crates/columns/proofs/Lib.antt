@@ -1,0 +1,4 @@
+pub mod Transposed
+pub mod Storing
+pub mod Restored
+pub mod Answers
