@@ -1,6 +1,6 @@
 /* Cakirotu's library for C: lists blocks of a record as pseudocode, says whether such a listing may be followed, writes and reads listings as
- * rows for a spreadsheet, gives a string back from its literal in a listing, makes a listing's command table for a keyer, and puts a record's
- * instructions by columns for a store. docs/BINDINGS.md says how to build and link.
+ * rows for a spreadsheet, gives a string back from its literal in a listing, makes a listing's command table for a keyer, puts a record's
+ * instructions by columns for a store, and makes all small routines for tests. docs/BINDINGS.md says how to build and link.
  *
  * No function allocates, keeps a pointer, or holds state between calls; threads may call at once. Any bytes may be lent as
  * a record, as rows or as a literal, and any lists as a listing: every call ends with what is asked for or with a number. Nothing is read or stored
@@ -35,7 +35,7 @@ enum cakirotu_answer {
     CAKIROTU_NO_ATLAS = 9,         /* do atlas addresses rise, do lengths total the header's, are texts as they may be? */
     CAKIROTU_NO_SPANS = 10,        /* is each span's first address at most its last? */
     CAKIROTU_NO_RANGE = 11,        /* from <= to <= the record's blocks? */
-    CAKIROTU_NO_TEXT_ROOM = 12,    /* is the list for text, for bytes, or for a record by columns, long enough? */
+    CAKIROTU_NO_TEXT_ROOM = 12,    /* is the list for text, for bytes, or for a record, long enough? */
     CAKIROTU_NO_TOKEN_ROOM = 13,   /* are ends and kinds, or a table's rows? */
     CAKIROTU_NO_LINE_ROOM = 14,    /* are addresses, marks, places and lines, or a table's addresses? */
     CAKIROTU_NO_BRANCHES = 15,     /* asked between 8 and 9: has each block that ends in a conditional near branch one True edge,
@@ -43,6 +43,7 @@ enum cakirotu_answer {
     CAKIROTU_NO_ROWS = 16,         /* of rows alone, asked before 12: are the bytes rows, do the lists hold lines that rows can carry? */
     CAKIROTU_NO_LITERAL = 17,      /* of a literal alone, asked before 12: is the token of kind 5, with a text that a listing has for a
                                       string? */
+    CAKIROTU_NO_ROUTINE = 18,      /* of a small routine alone, asked before 12: is its number below 276? */
     CAKIROTU_NO_NAMES = 19         /* of a command table alone, asked before 16: is neither name empty? */
 };
 
@@ -225,6 +226,21 @@ uint8_t cakirotu_to_columns(const uint8_t *rec, size_t rec_len, uint8_t *out, si
  * rec   a record by columns
  * out   gets the record */
 uint8_t cakirotu_from_columns(const uint8_t *rec, size_t rec_len, uint8_t *out, size_t out_len, uint64_t *size, size_t size_len);
+
+/* How many small routines there are, and the most bytes that the record of one has. */
+#define CAKIROTU_ROUTINES 276
+#define CAKIROTU_ROUTINE_BYTES 405
+
+/* Makes small routine k as a record that every question accepts: each routine of one, two or three blocks of a single instruction stands under one
+ * number, fewer blocks first. docs/ROUTINES.md says which has which number.
+ *
+ * With 0 `out` holds the record and its bytes past it are as they were; with a number it is as it was and the size is 0.
+ * Answers 0, CAKIROTU_NO_ROUTINE or CAKIROTU_NO_TEXT_ROOM.
+ *
+ * k     the routine's number, below CAKIROTU_ROUTINES
+ * out   gets the record; CAKIROTU_ROUTINE_BYTES always suffice
+ * size  gets how many bytes that are, in its first entry; a list without entries is as it was */
+uint8_t cakirotu_routine(size_t k, uint8_t *out, size_t out_len, uint64_t *size, size_t size_len);
 
 #ifdef __cplusplus
 }

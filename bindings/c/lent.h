@@ -65,7 +65,7 @@ static inline int unchanged(struct lists *l, const size_t from[LISTS]) {
     return same;
 }
 
-static uint8_t *copied(const uint8_t *bytes, size_t len) {
+static inline uint8_t *copied(const uint8_t *bytes, size_t len) {
     uint8_t *copy = malloc(len > 0 ? len : 1);
     CHECK(copy != NULL);
     memcpy(copy, bytes, len);
@@ -74,7 +74,7 @@ static uint8_t *copied(const uint8_t *bytes, size_t len) {
 
 /* The bytes of a record's file; answers how many there are. */
 #define MOST_RECORD 65536
-static size_t read_record(const char *name, uint8_t rec[MOST_RECORD]) {
+static inline size_t read_record(const char *name, uint8_t rec[MOST_RECORD]) {
     FILE *file = fopen(name, "rb");
     CHECK(file != NULL);
     size_t len = fread(rec, 1, MOST_RECORD, file);

@@ -122,6 +122,8 @@ extern "C" {
 
     fn cakirotu_from_columns(rec: *const u8, rec_len: usize, out: *mut u8, out_len: usize, size: *mut u64, size_len: usize)
         -> u8;
+
+    fn cakirotu_routine(k: usize, out: *mut u8, out_len: usize, size: *mut u64, size_len: usize) -> u8;
 }
 
 /// What no call leaves: every call writes its sizes, looks, values or counts.
@@ -298,6 +300,13 @@ pub fn from_columns(stored: &[u8], out: &mut [u8]) -> Result<usize, Refusal> {
     let no = unsafe {
         cakirotu_from_columns(stored.as_ptr(), stored.len(), out.as_mut_ptr(), out.len(), size.as_mut_ptr(), size.len())
     };
+    checked(no, size).map(|[size]| size)
+}
+
+pub fn routine(number: usize, out: &mut [u8]) -> Result<usize, Refusal> {
+    let mut size = [UNWRITTEN];
+    // The function is total: it reads nothing and stores nothing past `out` and the one entry, which as `&mut` are apart.
+    let no = unsafe { cakirotu_routine(number, out.as_mut_ptr(), out.len(), size.as_mut_ptr(), size.len()) };
     checked(no, size).map(|[size]| size)
 }
 

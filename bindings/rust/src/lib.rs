@@ -1,6 +1,6 @@
 //! Lists blocks of an x86 routine's record as pseudocode, writes and reads listings as rows for a spreadsheet, gives a string back from its
-//! literal in a listing, makes a listing's command table for a keyer, and puts a record's instructions by columns for a store, by Cakirotu's
-//! proved library.
+//! literal in a listing, makes a listing's command table for a keyer, puts a record's instructions by columns for a store, and makes all small
+//! routines for tests, by Cakirotu's proved library.
 //!
 //! Any bytes may be lent as a record: every call ends with a listing or a [`Refusal`]. [`list`] allocates a [`Listing`] of just
 //! the size needed; [`size`] and [`list_into`] allocate nothing and work on lists that the caller lends. All three also tell how much
@@ -8,6 +8,7 @@
 //! and [`read_rows_into`] on what the caller lends. [`read_literal`] gives the bytes of a string, [`read_literal_into`] in a list that
 //! the caller lends; so do [`command_table`] and [`command_table_into`] with the bytes that a register is set to before each call by a
 //! name. [`to_columns`] and [`from_columns`], and these with `_into`, rearrange a record for a store that compresses it, and back.
+//! [`routine`] and [`routine_into`] make small routines by number, as records.
 //!
 //! ```
 //! let record = std::fs::read("no such file").unwrap_or_default();
@@ -22,6 +23,7 @@ mod columns;
 mod ffi;
 mod literal;
 mod refusal;
+mod routine;
 mod rows;
 mod table;
 mod view;
@@ -32,6 +34,7 @@ pub use assumption::{check, Assumption};
 pub use columns::{from_columns, from_columns_into, to_columns, to_columns_into};
 pub use literal::{read_literal, read_literal_into, Literal, LITERAL_BYTES};
 pub use refusal::Refusal;
+pub use routine::{routine, routine_into, ROUTINES, ROUTINE_BYTES};
 pub use rows::{read_rows, read_rows_into, write_rows, write_rows_into, Held};
 pub use table::{command_table, command_table_into, Names, Table, TableLists, TableRows, TableSizes};
 pub use view::{Kind, Line, Lines, Token, Tokens, View};

@@ -27,15 +27,17 @@ pub enum Refusal {
     Rows,
     /// Asked of a literal alone, before [`Refusal::TextRoom`].
     Literal,
+    /// Asked of a small routine alone, before [`Refusal::TextRoom`].
+    Routine,
     /// Asked of a command table alone, before [`Refusal::Rows`].
-    Names = 19,
+    Names,
 }
 
 impl Refusal {
-    /// Every refusal, in the order in which the questions are asked: of a record all but [`Refusal::Literal`], [`Refusal::Names`] and
-    /// [`Refusal::Rows`], of a literal it and [`Refusal::TextRoom`], of a command table [`Refusal::Names`] and those behind it, of rows
+    /// Every refusal, in the order in which the questions are asked: of a record all but [`Refusal::Literal`], [`Refusal::Routine`],
+    /// [`Refusal::Names`] and [`Refusal::Rows`], of a literal or a small routine its own and [`Refusal::TextRoom`], of a command table [`Refusal::Names`] and those behind it, of rows
     /// [`Refusal::Rows`] and those behind it.
-    pub const ALL: [Refusal; 18] = [
+    pub const ALL: [Refusal; 19] = [
         Refusal::Header,
         Refusal::Settings,
         Refusal::Limits,
@@ -49,6 +51,7 @@ impl Refusal {
         Refusal::Spans,
         Refusal::Range,
         Refusal::Literal,
+        Refusal::Routine,
         Refusal::Names,
         Refusal::Rows,
         Refusal::TextRoom,
@@ -56,7 +59,7 @@ impl Refusal {
         Refusal::LineRoom,
     ];
 
-    /// 1 to 17, or 19.
+    /// 1 to 19.
     pub fn number(self) -> u8 {
         self as u8
     }
@@ -91,6 +94,7 @@ impl Refusal {
             }
             Refusal::Rows => "Are the bytes rows, or do the lists hold lines that rows can carry?",
             Refusal::Literal => "Is the token of kind 5, with a text that a listing has for a string?",
+            Refusal::Routine => "Is the number of a small routine below 276?",
             Refusal::Names => "Is neither the call's nor the register's name empty?",
         }
     }

@@ -2,6 +2,7 @@
 pub mod check;
 pub mod export;
 pub mod file;
+pub mod routine;
 mod sizes;
 pub mod store;
 pub mod string;

@@ -11,7 +11,7 @@ use Rattle.record.specs.declared.header.Header.{Header}
 use Rattle.record.specs.declared.asked.Asked.{Asked}
 use Rattle.record.specs.declared.asked.Asked.the-variants as asked
 use Rattle.record.specs.Header.{headerOf}
-use Rattle.record.specs.Asked.{orElse, firstNo, numberOf, answerOf, Answered}
+use Rattle.record.specs.Asked.{firstNo, numberOf, answerOf, Answered}
 use Rattle.checker.specs.Broken.{firstBroken}
 use Rattle.checker.specs.Called.{Accepted, Checks}
 use Rattle.checker.specs.declared.check.Checked.the-variants.{Follows, Broken, No}
@@ -27,11 +27,6 @@ no-of {r} p e = sym p ∙ not-true r e
 -- ---- the stages
 pub some-blocks : (n : ℕ) → (n ≡ 0 → ⊥) → leb 1 n ≡ true
 some-blocks n p = le-leb 1 n (omega arith)
-
--- a stage that has a number
-pub stops : (n later : ℕ) → (n ≡ 0 → ⊥) → n ≡ orElse n later
-stops zero later p = absurd (p refl)
-stops (suc n) later p = refl
 
 -- two constructors that would be equal
 impossible : {A : Type 0} → _≡_ {A = ℕ} 0 1 → A

@@ -13,17 +13,12 @@ use Rattle.lists.specs.Put.{put}
 use Rattle.lists.specs.PutLaws.{put-fits}
 use Rattle.record.specs.declared.header.Header.{Header}
 use Rattle.record.specs.Header.{headerOf}
-use Rattle.record.specs.Asked.{orElse, sizesNo}
+use Rattle.record.specs.Asked.{sizesNo}
 use Rattle.record.proofs.AskedLaws.{later, passed}
 use Rattle.columns.specs.Columns.{rearranged}
 use Rattle.columns.specs.Called.{storeNo, Stores}
 use Rattle.lists.specs.declared.stored.Stored.the-variants.{Bytes, No}
 use Rattle.columns.proofs.Restored.{is-rearranged}
-
--- a stage that has a number
-pub stops : (n later : ℕ) → (n ≡ 0 → ⊥) → n ≡ orElse n later
-stops zero later p = absurd (p refl)
-stops (suc n) later p = refl
 
 -- what a yes to all says
 pub store-yes : (s : List ℕ) (room : ℕ) → storeNo s room ≡ 0 → (sizesNo s ≡ 0) × (length s ≤ room)

@@ -7,7 +7,7 @@ use native.Mathlib.Omega.{arith}
 use lib.Dec.{eqb}
 use Rattle.rows.specs.Lists.{Lists}
 use Rattle.rows.specs.Rows.{Row, rowAt}
-use Rattle.rows.proofs.Tests.{split}
+use Rattle.lists.proofs.Tests.{split}
 use Rattle.commands.specs.Calls.{isCall, beginsWith, given}
 use Rattle.commands.specs.Table.{lineBefore, givenBy, bytesFor, entriesFrom}
 

@@ -14,7 +14,7 @@ use Rattle.lists.specs.Ascii.{ascii}
 use Rattle.x86.specs.Words.{sameWord}
 use Rattle.tokens.specs.Token.{Token, token}
 use Rattle.rows.specs.Rows.{Row}
-use Rattle.rows.proofs.Tests.{never}
+use Rattle.lists.proofs.Tests.{never}
 use Rattle.strings.specs.Called.{IsLiteral, Returns, kept, roomNo, numberOf, valuesOf}
 use Rattle.strings.specs.declared.reading.Back.{Back}
 use Rattle.strings.specs.declared.reading.Back.the-variants.{String, No}

@@ -8,7 +8,7 @@ use lib.Dec.{eqb}
 use borrow.Author.Tests.{eqb-true, eq-eqb}
 use Rattle.lists.specs.Every.{both-yes}
 use Rattle.x86.specs.Words.{sameWord}
-use Rattle.rows.proofs.Tests.{split, never}
+use Rattle.lists.proofs.Tests.{split, never}
 
 pub same-equal : (a b : List ℕ) → sameWord a b ≡ true → a ≡ b
 same-equal [] [] e = refl

@@ -10,7 +10,7 @@ use Rattle.text.specs.Number.{hexDigits}
 use Rattle.text.specs.NumberLaws.{hex-digits-length}
 use Rattle.rows.specs.Lists.{Lists}
 use Rattle.rows.specs.declared.answer.Sizes.{Sizes}
-use Rattle.rows.proofs.Tests.{split}
+use Rattle.lists.proofs.Tests.{split}
 use Rattle.commands.specs.Table.{Entry, Table, tableOf}
 use Rattle.commands.specs.Called.{hasNone, rowBytes, Told, table}
 use Rattle.commands.specs.Printed.{pairs, valueText, rowLine, rowLines, tableText}

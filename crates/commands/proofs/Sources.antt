@@ -13,7 +13,7 @@ use borrow.Author.Tests.{eqb-true, eqb-false}
 use Rattle.lists.specs.Choice.{pick}
 use Rattle.rows.specs.Lists.{Lists}
 use Rattle.rows.specs.Rows.{rowAt}
-use Rattle.rows.proofs.Tests.{never}
+use Rattle.lists.proofs.Tests.{never}
 use Rattle.commands.specs.Literals.{stringOf}
 use Rattle.commands.specs.Calls.{tokenOf, isAssign, isCall, beginsWith, given}
 use Rattle.commands.specs.Table.{lineBefore, givenBy, bytesFor}

@@ -14,7 +14,7 @@ use Rattle.lists.specs.Every.{both-yes}
 use Rattle.x86.specs.Words.{sameWord}
 use Rattle.text.specs.Literal.{escape, escapes, opening, closing, literalText}
 use Rattle.tokens.specs.Token.{Token}
-use Rattle.rows.proofs.Tests.{split}
+use Rattle.lists.proofs.Tests.{split}
 use Rattle.strings.specs.Called.{isString, IsLiteral}
 use Rattle.strings.specs.Reading.{guessOf}
 use Rattle.strings.proofs.Spellings.{spelling-tells}

@@ -15,7 +15,7 @@ use Rattle.tokens.specs.Lines.{between}
 use Rattle.rows.specs.Lists.{Lists}
 use Rattle.rows.specs.Rows.{rowAt}
 use Rattle.rows.specs.declared.answer.Sizes.{Sizes}
-use Rattle.rows.proofs.Tests.{split}
+use Rattle.lists.proofs.Tests.{split}
 use Rattle.commands.specs.Calls.{callsTo}
 use Rattle.commands.specs.Table.{Entry, bytesFor, entriesFrom, Table, bytesIn, noneMark, allBytes, rowNumbers, tableOf}
 use Rattle.commands.specs.Called.{byteEnd, rowBytes, Source, Told, table}

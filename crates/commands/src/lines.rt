@@ -2,9 +2,9 @@
 use csv::held::end_at;
 use csv::writing::text_between;
 use lists::parts::part;
+use lists::reads::same;
 use lists::reads::u8_at;
 use lists::reads::u16_in;
-use strings::character::same;
 ghost use mathlib.Core.Path.{_≡_};
 ghost use mathlib.Core.List.{List};
 ghost use Prim.Native.Nat.{ℕ, _<_};

@@ -4,6 +4,7 @@ use abi::export::cakirotu_list as list;
 use abi::export::cakirotu_size as size;
 use abi::file::cakirotu_read_rows as read_rows;
 use abi::file::cakirotu_write_rows as write_rows;
+use abi::routine::cakirotu_routine as routine;
 use abi::store::cakirotu_from_columns as from_columns;
 use abi::store::cakirotu_to_columns as to_columns;
 use abi::string::cakirotu_read_literal as read_literal;
@@ -12,11 +13,13 @@ ghost use Rattle.rows.specs.Lists.{listsOf};
 ghost use Rattle.abi.specs.Checks.{RecordChecked};
 ghost use Rattle.abi.specs.Exported.{Exported, Sized};
 ghost use Rattle.abi.specs.Rows.{RowsWritten, RowsRead};
-ghost use Rattle.abi.specs.Stores.{RecordStored};
+ghost use Rattle.abi.specs.Stores.{BytesStored};
 ghost use Rattle.abi.specs.Strings.{LiteralRead};
 ghost use Rattle.abi.specs.Tables.{TableMade};
+ghost use Rattle.columns.specs.Called.{Stores};
 ghost use Rattle.columns.specs.Columns.{bodies, bodyBytes};
 ghost use Rattle.commands.specs.Table.{tableLists};
+ghost use Rattle.routines.specs.Called.{Makes};
 
 #[no_mangle]
 pub extern "C" fn cakirotu_list(
@@ -182,14 +185,21 @@ pub extern "C" fn cakirotu_check(rec: &[u8], broken: &mut [u64]) -> u8
 
 #[no_mangle]
 pub extern "C" fn cakirotu_to_columns(rec: &[u8], out: &mut [u8], size: &mut [u64]) -> u8
-    ensures { λ r. ⌜ RecordStored bodies bodyBytes (now (rec .entry)) (now (out .entry)) (now (out .exit)) (now (size .entry)) (now (size .exit)) r ⌝ }
+    ensures { λ r. ⌜ BytesStored (Stores bodies bodyBytes (now (rec .entry)) (now (out .entry)) (now (out .exit))) (now (size .entry)) (now (size .exit)) r ⌝ }
 {
     to_columns(rec, out, size)
 }
 
 #[no_mangle]
 pub extern "C" fn cakirotu_from_columns(rec: &[u8], out: &mut [u8], size: &mut [u64]) -> u8
-    ensures { λ r. ⌜ RecordStored bodyBytes bodies (now (rec .entry)) (now (out .entry)) (now (out .exit)) (now (size .entry)) (now (size .exit)) r ⌝ }
+    ensures { λ r. ⌜ BytesStored (Stores bodyBytes bodies (now (rec .entry)) (now (out .entry)) (now (out .exit))) (now (size .entry)) (now (size .exit)) r ⌝ }
 {
     from_columns(rec, out, size)
+}
+
+#[no_mangle]
+pub extern "C" fn cakirotu_routine(k: usize, out: &mut [u8], size: &mut [u64]) -> u8
+    ensures { λ r. ⌜ BytesStored (Makes k (now (out .entry)) (now (out .exit))) (now (size .entry)) (now (size .exit)) r ⌝ }
+{
+    routine(k, out, size)
 }

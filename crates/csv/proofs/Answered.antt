@@ -20,7 +20,7 @@ use Rattle.rows.specs.declared.answer.Sizes.{Sizes}
 use Rattle.rows.specs.declared.answer.Rooms.{Rooms}
 use Rattle.rows.specs.declared.answer.Answer.{Answer}
 use Rattle.rows.specs.declared.answer.Answer.the-variants.{Listed, No}
-use Rattle.rows.proofs.Tests.{split}
+use Rattle.lists.proofs.Tests.{split}
 use Rattle.rows.proofs.Back.{counts-length, leaves-rows}
 use Rattle.csv.specs.Format.{rowsText, goodRows}
 use Rattle.csv.specs.Called.{writable, Reads}

@@ -15,7 +15,7 @@ use Rattle.text.specs.Decimal.{decimalOf, decimalText}
 use Rattle.text.specs.Number.{digit, hexDigits}
 use Rattle.tokens.specs.Token.{Token, token}
 use Rattle.rows.specs.Rows.{Row, row}
-use Rattle.rows.proofs.Tests.{split, never}
+use Rattle.lists.proofs.Tests.{split, never}
 use Rattle.csv.specs.Format.{letter, doubled, tokenText, tokensText, addressText, rowText, rowsText, some, goodToken, goodRow, goodRows}
 use Rattle.csv.specs.Reading.{isDigit, goesOn, isHex, hexValue, kindOf, Rest, ahead, add, rest, isRows, rowsRead}
 use Rattle.csv.specs.declared.machine.At.{At}

@@ -12,7 +12,7 @@ use Rattle.lists.specs.Every.{every, both-yes}
 use Rattle.tokens.specs.Token.{Token}
 use Rattle.tokens.specs.Listing.{textOf}
 use Rattle.rows.specs.Rows.{Row, allTokens, rowLists}
-use Rattle.rows.proofs.Tests.{never}
+use Rattle.lists.proofs.Tests.{never}
 use Rattle.tokens.proofs.Fit.{fitToken}
 use Rattle.rows.proofs.Back.{fitRow, begins-alone, rows-hold}
 use Rattle.rows.proofs.Held.{Held, held}

@@ -12,7 +12,7 @@ use Rattle.lists.specs.Every.{both-yes}
 use Rattle.text.specs.Decimal.{decimalText}
 use Rattle.text.proofs.DecimalLaws.{decimal-one, decimal-more}
 use Rattle.text.specs.Number.{digit, hexDigits}
-use Rattle.rows.proofs.Tests.{split}
+use Rattle.lists.proofs.Tests.{split}
 use Rattle.csv.specs.Reading.{isDigit, longer, goesOn, isHex, hexValue}
 
 -- ---- decimal

@@ -14,7 +14,7 @@ use Rattle.text.specs.Number.{hexDigits}
 use Rattle.tokens.specs.Token.{Token, token}
 use Rattle.rows.specs.Rows.{Row, row}
 use Rattle.tokens.proofs.Fit.{both}
-use Rattle.rows.proofs.Tests.{split, never}
+use Rattle.lists.proofs.Tests.{split, never}
 use Rattle.csv.specs.Format.{letter, doubled, tokenText, tokensText, addressText, rowText, rowsText, some, goodToken, goodRow, goodRows}
 use Rattle.csv.specs.Reading.{isDigit, longer, goesOn, isHex, hexValue, kindOf, afterHex, next, isStart, effect, Rest, add, rest, isRows, rowsRead}
 use Rattle.csv.specs.declared.machine.At.{At}

@@ -12,7 +12,7 @@ use Rattle.lists.specs.Choice.{pick}
 use Rattle.tokens.specs.Token.{Token}
 use Rattle.tokens.specs.Listing.{textOf, endsFrom, kindsOf}
 use Rattle.rows.specs.Rows.{Row, allTokens, tokenCounts, markOf}
-use Rattle.rows.proofs.Tests.{split, never}
+use Rattle.lists.proofs.Tests.{split, never}
 use Rattle.csv.specs.Reading.{isDigit, isHex, goesOn, kindOf, afterHex, next, stage, effect, Rest, add, rest}
 use Rattle.csv.specs.Filling.{number, addressIn, markIn, placeIn, one}
 use Rattle.csv.specs.declared.machine.At.{At}

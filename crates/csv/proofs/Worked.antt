@@ -11,7 +11,7 @@ use Rattle.text.specs.Number.{digit, hexDigits}
 use Rattle.tokens.specs.Token.{token, register, keyword, symbol, punct}
 use Rattle.tokens.specs.Listing.{textOf}
 use Rattle.rows.specs.Rows.{Row, row, allTokens}
-use Rattle.rows.proofs.Tests.{never}
+use Rattle.lists.proofs.Tests.{never}
 use Rattle.csv.specs.Format.{doubled, tokenText, tokensText, rowText, rowsText, goodToken, goodRow}
 use Rattle.csv.specs.Called.{writable}
 use Rattle.csv.specs.Reading.{add, rest, isRows, rowsRead}

@@ -12,7 +12,7 @@ use lib.ListN.{length, take, drop, getD, length-append, drop-of-length-le}
 use lib.Seq.{take-append-seam, drop-cons}
 use borrow.Author.Tests.{eqb-true, eqb-false, eq-eqb, ne-eqb}
 use Rattle.lists.specs.Every.{both-yes, neither}
-use Rattle.rows.proofs.Tests.{split, never}
+use Rattle.lists.proofs.Tests.{split, never}
 use Rattle.csv.specs.Format.{rowsText, some}
 use Rattle.page.specs.Page.{refusal}
 use Rattle.keyer.specs.Output.{isLine, IsInput, named, Prints}

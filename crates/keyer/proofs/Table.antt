@@ -18,7 +18,7 @@ use Rattle.rows.specs.declared.answer.Answer.{Answer}
 use Rattle.rows.specs.declared.answer.Answer.the-variants.{Listed, No}
 use Rattle.rows.proofs.Back.{leaves-rows, rows-back, begins-alone}
 use Rattle.rows.proofs.Listed.{refused-some, lines-size}
-use Rattle.rows.proofs.Tests.{never}
+use Rattle.lists.proofs.Tests.{never}
 use Rattle.csv.specs.Format.{rowsText}
 use Rattle.csv.specs.Called.{writable, Reads}
 use Rattle.csv.proofs.Fit.{writable-good, rows-fit}

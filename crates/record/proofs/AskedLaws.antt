@@ -23,6 +23,11 @@ pub later : (a b : ℕ) → orElse a b ≡ 0 → (a ≡ 0) × (b ≡ 0)
 later zero b h = (refl, h)
 later (suc n) b h = absurd (omega arith)
 
+-- a stage that has a number
+pub stage-stops : (n later : ℕ) → (n ≡ 0 → ⊥) → n ≡ orElse n later
+stage-stops zero later p = absurd (p refl)
+stage-stops (suc n) later p = refl
+
 pub passed : (n : ℕ) (q : Bool) (l : ℕ) → ask (suc n) q l ≡ 0 → (q ≡ true) × (l ≡ 0)
 passed n true l h = (refl, h)
 passed n false l h = absurd (omega arith)

@@ -1,4 +1,3 @@
-pub mod Tests
 pub mod Back
 pub mod Held
 pub mod Listed

@@ -13,7 +13,7 @@ use borrow.Author.Tests.{eq-eqb, eqb-true, not-false, le-leb, lt-leb, le-ltb}
 use Rattle.lists.specs.Every.{neither}
 use Rattle.lists.specs.PutLaws.{put-fits}
 use Rattle.text.specs.Literal.{closing}
-use Rattle.rows.proofs.Tests.{never}
+use Rattle.lists.proofs.Tests.{never}
 use Rattle.strings.specs.Called.{IsLiteral, Returns, kept, roomNo}
 use Rattle.strings.specs.Reading.{Found, Measured, Filled}
 use Rattle.strings.specs.declared.literal.Literal.{Literal}

@@ -12,7 +12,7 @@ use borrow.Author.Tests.{eqb-true, eqb-false, not-true, ltb-true, lt-ltb, le-ltb
 use Rattle.lists.specs.Choice.{pick}
 use Rattle.lists.specs.Every.{both-yes}
 use Rattle.text.specs.Literal.{escapes, opening, closing, literalText}
-use Rattle.rows.proofs.Tests.{split}
+use Rattle.lists.proofs.Tests.{split}
 use Rattle.strings.specs.Called.{isString, kept}
 use Rattle.strings.specs.Reading.{Opens, Characters, Ends, Found, Measured}
 use Rattle.strings.specs.declared.literal.Literal.{Literal}

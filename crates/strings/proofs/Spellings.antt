@@ -15,7 +15,7 @@ use Rattle.lists.specs.Put.{put}
 use Rattle.lists.specs.PutLaws.{put-fits}
 use Rattle.text.specs.Number.{digit, hexOf, hexText}
 use Rattle.text.specs.Literal.{unseen, codeText, escape, closing}
-use Rattle.rows.proofs.Tests.{never}
+use Rattle.lists.proofs.Tests.{never}
 use Rattle.strings.specs.Reading.{guessOf, Spelt}
 
 -- a byte that an end of a literal begins with

@@ -1,6 +1,7 @@
 // The character that a text begins with. The one byte that it can be is read off it, and that byte's spelling compared with what stands
 // there: so no spelling is accepted that the listing would not write.
 use lists::parts::part;
+use lists::reads::same;
 use lists::reads::u8_at;
 use text::literal::put_escape;
 ghost use mathlib.Core.Path.{_≡_};
@@ -54,23 +55,6 @@ fn guess(t: &[u8]) -> u8
         return escaped(u8_at(t, 1), u8_at(t, 3), u8_at(t, 4));
     }
     c
-}
-
-// Whether two texts are the same.
-pub fn same(a: &[u8], b: &[u8]) -> bool
-    ensures { λ r. ⌜ (r ≡ true → now (a .entry) ≡ now (b .entry)) × (now (a .entry) ≡ now (b .entry) → r ≡ true) ⌝ }
-{
-    if a.len() != b.len() {
-        return false;
-    }
-    let mut i = 0;
-    while i < a.len() {
-        if a[i] != b[i] {
-            return false;
-        }
-        i += 1;
-    }
-    true
 }
 
 // The first character of a text.

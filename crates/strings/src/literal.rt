@@ -1,7 +1,7 @@
 // The parts of a literal: where its characters begin, how many there are, and how it ends.
 use crate::character::first;
-use crate::character::same;
 use lists::reads::from;
+use lists::reads::same;
 use lists::reads::u8_at;
 ghost use Rattle.strings.specs.Reading.{Opens, Characters, Ends, Measured};
 

@@ -1,7 +1,7 @@
 -- Tokens that rows can hold: none is empty, and each is of a kind below 8. One by one, behind each other, made Text, and joined.
 -- Joining appends bytes to a token that keeps its kind, so what it makes is fit where its parts are.
 use mathlib.Core.Path.{_≡_, refl}
-use mathlib.Core.Bool.{Bool, true, false, _&&_}
+use mathlib.Core.Bool.{Bool, true, _&&_}
 use mathlib.Core.List.{List, [], _∷_, _++_, map}
 use mathlib.Core.Logic.{⊎-elim}
 use Prim.Native.Nat.{ℕ, _<_}
@@ -10,6 +10,7 @@ use borrow.Author.Tests.{ltb-true, lt-ltb}
 use lib.Dec.{T, ltb}
 use lib.ListN.{length, length-append}
 use Rattle.lists.specs.Every.{every, both-yes}
+use Rattle.lists.proofs.Tests.{is-true}
 use Rattle.tokens.specs.Token.{Token, token, asText}
 use Rattle.tokens.specs.Words.{prefixed}
 use Rattle.tokens.specs.Listing.{glued, glue, run, join}
@@ -25,10 +26,6 @@ pub both : (a b : Bool) → a ≡ true → b ≡ true → (a && b) ≡ true
 both a b p q = rw (p, q)
 
 -- ---- one token
-is-true : (b : Bool) → T b → b ≡ true
-is-true true t = refl
-is-true false t = absurd t
-
 single : (t : Token) → fitToken t ≡ true → Fit (t ∷ [])
 single t e = record { each = both (fitToken t) true e refl }
 

@@ -4,7 +4,9 @@ mod answers;
 pub mod columns;
 pub mod literals;
 pub mod routes;
+pub mod routines;
 pub mod rows;
+mod stored;
 pub mod tables;
 #[cfg(test)]
 mod tests;
@@ -39,6 +41,7 @@ pub const COMPARISONS: &[(&str, Comparison)] = &[
     ("tables", tables::tables),
     ("routes", routes::routes),
     ("columns", columns::columns),
+    ("routines", routines::routines),
     ("sanity", sanity),
 ];
 

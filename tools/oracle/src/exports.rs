@@ -1,4 +1,4 @@
-//! What the port's library exports for the comparison alone, and four functions of the product's that the comparison calls as C does. It is the
+//! What the port's library exports for the comparison alone, and five functions of the product's that the comparison calls as C does. It is the
 //! archive that the crate `cakirotu` links.
 
 use crate::pieces::Tokens;
@@ -35,6 +35,8 @@ extern "C" {
     fn cakirotu_to_columns(rec: *const u8, len: usize, out: *mut u8, out_len: usize, size: *mut u64, size_len: usize) -> u8;
 
     fn cakirotu_from_columns(rec: *const u8, len: usize, out: *mut u8, out_len: usize, size: *mut u64, size_len: usize) -> u8;
+
+    fn cakirotu_routine(k: usize, out: *mut u8, out_len: usize, size: *mut u64, size_len: usize) -> u8;
 }
 
 /// The first question of a record and a range that gets a no, or 0.
@@ -93,4 +95,10 @@ pub fn to_columns(record: &[u8], out: &mut [u8], size: &mut [u64]) -> u8 {
 pub fn from_columns(record: &[u8], out: &mut [u8], size: &mut [u64]) -> u8 {
     // The function is total: it reads the record alone and stores nothing past the two lists.
     unsafe { cakirotu_from_columns(record.as_ptr(), record.len(), out.as_mut_ptr(), out.len(), size.as_mut_ptr(), size.len()) }
+}
+
+/// A small routine, with any number of entries for the size.
+pub fn routine(k: usize, out: &mut [u8], size: &mut [u64]) -> u8 {
+    // The function is total: it reads nothing and stores nothing past the two lists.
+    unsafe { cakirotu_routine(k, out.as_mut_ptr(), out.len(), size.as_mut_ptr(), size.len()) }
 }

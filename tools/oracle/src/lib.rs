@@ -1,5 +1,5 @@
 //! What the port is compared with: the unchanged Rust emitter over a record, the amended one where document 02 departs from it, and the
-//! questions, rows, literals, command tables, looks, routes and columns of documents 01 and 02 written a second time.
+//! questions, rows, literals, command tables, looks, routes, columns and small routines of documents 01 and 02 written a second time.
 
 pub mod columns;
 pub mod compare;
@@ -21,6 +21,7 @@ pub mod record;
 pub mod replay;
 pub mod rng;
 pub mod routes;
+pub mod routines;
 pub mod rows;
 pub mod tables;
 

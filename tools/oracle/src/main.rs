@@ -5,7 +5,7 @@ use std::process::ExitCode;
 
 use oracle::rows::{self, programs};
 use oracle::tables;
-use oracle::{columns, compare, listing, questions, record, replay};
+use oracle::{columns, compare, listing, questions, record, replay, routines};
 
 const USAGE: &str = "usage: oracle list FILE [FROM TO]     the Rust's listing of a record (- for standard input)
        oracle to-csv FILE            the rows of that listing, as the program to_csv prints them
@@ -18,6 +18,9 @@ const USAGE: &str = "usage: oracle list FILE [FROM TO]     the Rust's listing of
        oracle from-columns FILE      the way back, as the program from_columns prints it
        oracle columns-input SEED     a generated input of these programs, to standard output
        oracle columns-folder SET FOLDER  records as they are and by columns, for compressors
+       oracle routine FILE           a small routine by its number, as the program routine prints it
+       oracle routines-folder FOLDER  all small routines with their listings and rows
+       oracle routines-table         what they list as, the table of docs/ROUTINES.md
        oracle example                the record of document 01's example, to standard output
        oracle questions SEED COUNT   compare the port's questions of a record and a range
        oracle pieces SEED COUNT      compare the port's operands, memory operands and conditions with the Rust's
@@ -28,6 +31,7 @@ const USAGE: &str = "usage: oracle list FILE [FROM TO]     the Rust's listing of
        oracle tables SEED COUNT      compare the port's command tables with the second implementation's
        oracle routes SEED COUNT      compare the listing's route with the processor's, and the port's check of a record with the second one
        oracle columns SEED COUNT     compare the port's records by columns and back with the second implementation's
+       oracle routines SEED COUNT    compare the port's small routines with the second implementation's
        oracle sanity SEED COUNT      generated records against the questions, the Rust and demand 3
        oracle bench [SET rust|port]  the port's speed against the Rust's; one listing each of a set's records
        oracle bench-rows FOLDER      the port's speed with rows and tables, and the files into a folder
@@ -54,6 +58,9 @@ fn main() -> ExitCode {
         ["from-columns", file] => read(file).and_then(|bytes| write(&columns::programs::from_columns(&bytes))),
         ["columns-input", seed] => number(seed).and_then(|s| write(&columns::any::input(s))),
         ["columns-folder", set, folder] => columns::folder::keep(set, folder),
+        ["routine", file] => read(file).and_then(|bytes| write(&routines::programs::routine(&bytes))),
+        ["routines-folder", folder] => routines::programs::keep(folder),
+        ["routines-table"] => routines::table::table().and_then(|table| write(table.as_bytes())),
         ["example"] => write(&record::example().to_bytes()),
         ["record", seed] => number(seed).and_then(|s| write(&compare::record(s as u64))),
         ["replay", count, seed] => number(count).and_then(|n| number(seed).and_then(|s| write(&replay::corpus(n, s as u64)?))),

@@ -7,6 +7,7 @@ use crate::columns::Rearranger;
 use crate::lists::{Answer, Left, Lists};
 use crate::literals::Reader;
 use crate::pieces::Tokens;
+use crate::routines;
 use crate::rows::Written;
 use crate::tables::Maker;
 #[cfg(feature = "abi")]
@@ -27,6 +28,7 @@ pub struct Port {
     pub check: fn(&[u8], &mut [u64]) -> u8,
     pub to_columns: Rearranger,
     pub from_columns: Rearranger,
+    pub routine: routines::Maker,
 }
 
 #[cfg(feature = "comparison")]
@@ -44,6 +46,7 @@ pub fn linked() -> Result<Port, String> {
         check: exports::check,
         to_columns: exports::to_columns,
         from_columns: exports::from_columns,
+        routine: exports::routine,
     })
 }
 

@@ -4,7 +4,6 @@
 pub mod assumed;
 pub mod listed;
 pub mod processor;
-pub mod small;
 #[cfg(test)]
 mod tests;
 

@@ -68,11 +68,11 @@ pub fn example_with_atlas() -> Vec<u8> {
     record
 }
 
-fn put_u64(record: &mut Vec<u8>, numbers: &[u64]) {
+pub fn put_u64(record: &mut Vec<u8>, numbers: &[u64]) {
     numbers.iter().for_each(|n| record.extend(n.to_le_bytes()));
 }
 
-fn body(mnemonic: u8, condition: u8, operands: &[(u8, u8, u64)], name: &[u8]) -> [u8; BODY] {
+pub fn body(mnemonic: u8, condition: u8, operands: &[(u8, u8, u64)], name: &[u8]) -> [u8; BODY] {
     let mut body = [0; BODY];
     body[..8].copy_from_slice(&[mnemonic, condition, operands.len() as u8, 0, 0, 0, 0, 1]);
     for (n, (kind, register, number)) in operands.iter().enumerate() {

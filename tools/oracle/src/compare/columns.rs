@@ -2,6 +2,7 @@
 //! records of every generator and on bytes that are none.
 
 use super::answers::{print_kinds, Answers};
+use super::stored::{Kept, SIZES};
 use super::Tally;
 use crate::columns::{self, any, Rearranger, NO_ROOM};
 use crate::damage::{self, Call};
@@ -9,12 +10,6 @@ use crate::port;
 use crate::questions;
 use crate::record::Layout;
 use crate::rng::Rng;
-
-/// How far the output list reaches behind what is lent of it.
-const BEHIND: usize = 5;
-
-/// The most entries that are lent for the size.
-const SIZES: usize = 2;
 
 /// Both directions, to columns and from columns.
 type Ways<T> = [T; 2];
@@ -82,8 +77,8 @@ impl Run {
     /// One call: the answer, the whole output list with what lies behind what is lent of it, and the list for the size likewise.
     fn call(&mut self, way: usize, bytes: &[u8], room: usize, entries: usize) -> Result<(), String> {
         let fill = self.tally.compared as u8;
-        let want = self.ours.call(OURS[way], bytes, room, entries, fill);
-        let got = self.theirs.call(self.port[way], bytes, room, entries, fill);
+        let want = self.ours.call(room, entries, fill, |out, size| OURS[way](bytes, out, size));
+        let got = self.theirs.call(room, entries, fill, |out, size| self.port[way](bytes, out, size));
         self.tally.compared += 1;
         self.seen.answers[way].add(want);
         self.seen.sizes[entries] += 1;
@@ -92,11 +87,7 @@ impl Run {
         }
         let (ours, theirs) = (&self.ours, &self.theirs);
         self.tally.differs(&call_of(bytes), || {
-            let at = ours.out.iter().zip(&theirs.out).position(|(a, b)| a != b);
-            format!(
-                "{}, {room} bytes and {entries} sizes lent: expected {want} with {:x?}, the port says {got} with {:x?}; first byte that differs: {at:?}",
-                NAMES[way], ours.size, theirs.size
-            )
+            format!("{}, {room} bytes and {entries} sizes lent: {}", NAMES[way], ours.unlike(theirs, [want, got]))
         })
     }
 
@@ -122,22 +113,6 @@ impl Run {
 
 fn call_of(bytes: &[u8]) -> Call {
     Call { bytes: bytes.to_vec(), from: 0, to: 0 }
-}
-
-/// Both lists, of which a part is lent: all that lies behind it must stay as it was.
-#[derive(Debug, Default, PartialEq, Eq)]
-struct Kept {
-    out: Vec<u8>,
-    size: [u64; SIZES + 1],
-}
-
-impl Kept {
-    fn call(&mut self, rearrange: Rearranger, bytes: &[u8], room: usize, entries: usize, fill: u8) -> u8 {
-        self.out.clear();
-        self.out.resize(room + BEHIND, fill);
-        self.size = [u64::from_le_bytes([fill; 8]) ^ 1; SIZES + 1];
-        rearrange(bytes, &mut self.out[..room], &mut self.size[..entries])
-    }
 }
 
 /// What came, so that a comparison of refusals alone would show.

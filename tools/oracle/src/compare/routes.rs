@@ -15,7 +15,8 @@ use crate::rng::Rng;
 use crate::routes::assumed::{self, ASSUMED};
 use crate::routes::listed::Reader;
 use crate::routes::processor::Processor;
-use crate::routes::{small, Route, Stop};
+use crate::routes::{Route, Stop};
+use crate::routines;
 use crate::rows::{self, Row};
 
 /// Of a generated record so many are asked for at most.
@@ -31,7 +32,7 @@ pub fn routes(seed: u64, count: usize) -> Result<bool, String> {
 fn compared(port: &Port, seed: u64, count: usize, mut tally: Tally) -> Result<(Tally, Seen), String> {
     let mut rng = Rng::new(seed);
     let mut seen = Seen::default();
-    for record in small::all() {
+    for record in routines::all() {
         record_alike(&record.to_bytes(), port, &all_outcomes(6), &mut tally, &mut seen)?;
     }
     for n in 0..count {

@@ -4,7 +4,7 @@ use super::Port;
 use crate::lists::{fitting, Answer, Lists, TOO_SHORT};
 use crate::pieces::Tokens;
 use crate::record::Record;
-use crate::{columns, listing, literals, looks, questions, routes, rows, tables};
+use crate::{columns, listing, literals, looks, questions, routes, routines, rows, tables};
 
 pub fn second() -> Port {
     Port {
@@ -19,6 +19,7 @@ pub fn second() -> Port {
         check: routes::assumed::check,
         to_columns: columns::to_columns,
         from_columns: columns::from_columns,
+        routine: routines::make,
     }
 }
 

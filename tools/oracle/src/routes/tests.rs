@@ -67,20 +67,6 @@ fn the_example_both_ways() {
     assert_eq!(first_broken(&example()), Ok(0));
 }
 
-/// "There are 2, 18 and 256.", "Each comes exactly once, none is missing, and all are accepted."
-#[test]
-fn all_small_routines() {
-    let all = small::all();
-    let of = |blocks: usize| all.iter().filter(|r| r.blocks.len() == blocks).count();
-    assert_eq!([of(1), of(2), of(3)], [2, 18, 256]);
-    let mut bytes: Vec<Vec<u8>> = all.iter().map(Record::to_bytes).collect();
-    assert!(bytes.iter().zip(&all).all(|(b, r)| questions::first_no(b, 0, r.blocks.len()) == 0));
-    assert!(all.is_sorted_by_key(|r| r.blocks.len()));
-    bytes.sort();
-    bytes.dedup();
-    assert_eq!(bytes.len(), 276);
-}
-
 #[test]
 fn a_number_comes_with_no_assumption() {
     let mut broken = [7, 7];

@@ -3,7 +3,7 @@
 use borrow.Author.Needs.{needs}
 use borrow.Author.Tests.{le-leb, lt-leb}
 use Rattle.columns.specs.Called.{storeNo}
-use Rattle.columns.proofs.Answers.{stops}
+use Rattle.record.proofs.AskedLaws.{stage-stops}
 use Rattle.columns.proofs.store.store_no.Statement.{statement}
 use Rattle.columns.proofs.store.store_no.Tie as tie
 
@@ -12,7 +12,7 @@ sizes-no-requires c κs = search needs
 
 returns : tie.Need-returns
 unfolding storeNo
-returns c = rw (← c .before .sizes-no .ensures) (stops (c .before .sizes-no .result) _ (c .if1 .taken))
+returns c = rw (← c .before .sizes-no .ensures) (stage-stops (c .before .sizes-no .result) _ (c .if1 .taken))
 
 returns-2 : tie.Need-returns-2
 unfolding storeNo

@@ -3,7 +3,7 @@
 use borrow.Author.Needs.{needs}
 use mathlib.Core.Path.{sym, _∙_}
 use Rattle.text.specs.Literal.{closing}
-use Rattle.rows.proofs.Tests.{never}
+use Rattle.lists.proofs.Tests.{never}
 use Rattle.strings.proofs.Quotes.{ends-whole, ends-cut, ends-not}
 use Rattle.strings.proofs.literal.ending.Statement.{statement}
 use Rattle.strings.proofs.literal.ending.Tie as tie

@@ -6,7 +6,7 @@ use borrow.Author.Tests.{eq-eqb, eqb-true}
 use lib.Dec.{eqb}
 use Rattle.lists.specs.Every.{both-yes}
 use Rattle.tokens.proofs.Fit.{both}
-use Rattle.rows.proofs.Tests.{never}
+use Rattle.lists.proofs.Tests.{never}
 use Rattle.strings.proofs.Quotes.{opens, opens-wide, opens-not}
 use Rattle.strings.proofs.literal.opening_size.Statement.{statement}
 use Rattle.strings.proofs.literal.opening_size.Tie as tie

@@ -1,22 +1,48 @@
-//! All small routines, as #112 words them: "every routine of one, two or three blocks".
+//! All small routines (#112), written a second time from the request's words: "Produce every routine of one, two or three blocks".
+
+pub mod programs;
+pub mod table;
+#[cfg(test)]
+mod tests;
+pub mod told;
+
+use std::sync::OnceLock;
 
 use crate::record::{edge, kind, mnemonic as m, name, register as r, Block, Edge, Insn, Operand, Record};
 
+/// "18 if a number of 276 or more is asked for, asked first"
+pub const NO_ROUTINE: u8 = 18;
+
+/// "12 if the list is shorter than the record"
+pub const NO_ROOM: u8 = 12;
+
+/// A call: the number asked for, a list for the record, and one for the number of its bytes. Answers 0 or a number.
+pub type Maker = fn(usize, &mut [u8], &mut [u64]) -> u8;
+
 /// "The endings rank ret, fall, jmp by rising t, jne by rising t."
-#[derive(Clone, Copy)]
-enum Ending {
+#[derive(Clone, Copy, Debug, PartialEq, Eq, PartialOrd, Ord)]
+pub enum Ending {
     Ret,
     Fall,
     Jmp(usize),
     Jne(usize),
 }
 
+/// The endings of a block, by the number of blocks and its place, in their order.
+type Endings = fn(usize, usize) -> Vec<Ending>;
+
 /// All of them, in the request's order: "There are 2, 18 and 256."
 pub fn all() -> Vec<Record> {
-    (1..=3).flat_map(of_blocks).collect()
+    ranked(endings)
 }
 
-fn of_blocks(count: usize) -> Vec<Record> {
+/// "Fewer blocks come first"
+fn ranked(endings: Endings) -> Vec<Record> {
+    (1..=3).flat_map(|count| of_blocks(count, endings)).collect()
+}
+
+/// "then the first block's ending decides, then the second's and third's"
+fn of_blocks(count: usize, endings: Endings) -> Vec<Record> {
     let mut routines = vec![Vec::new()];
     for place in 0..count {
         let endings = endings(count, place);
@@ -36,10 +62,12 @@ fn endings(count: usize, place: usize) -> Vec<Ending> {
     }
 }
 
+/// "block k, from 0, starting at 0x1000 + 16 × k"
 fn start(place: usize) -> u64 {
     0x1000 + 16 * place as u64
 }
 
+/// "Bits are 64, convention 1, indent 1, all labels wanted, no atlas and no spans."
 fn record(endings: &[Ending]) -> Record {
     let blocks = endings.iter().enumerate().map(|(place, ending)| block(place, *ending)).collect();
     Record { bits: 64, convention: 1, indent: 1, blocks, ..Record::default() }
@@ -71,4 +99,32 @@ fn near(insn: Insn, place: usize) -> Insn {
     let mut insn = Insn { count: 1, ..insn };
     insn.operands[0] = Operand { kind: kind::NEAR, register: 0, number: start(place) };
     insn
+}
+
+/// Their bytes, made once.
+pub fn bytes() -> &'static [Vec<u8>] {
+    static BYTES: OnceLock<Vec<Vec<u8>>> = OnceLock::new();
+    BYTES.get_or_init(|| all().iter().map(Record::to_bytes).collect())
+}
+
+/// "Checks: 18 if a number of 276 or more is asked for, asked first; 12 if the list is shorter than the record."
+fn first_no(routines: &[Vec<u8>], k: usize, room: usize) -> u8 {
+    match routines.get(k) {
+        None => NO_ROUTINE,
+        Some(record) if record.len() > room => NO_ROOM,
+        Some(_) => 0,
+    }
+}
+
+pub fn make(k: usize, out: &mut [u8], size: &mut [u64]) -> u8 {
+    let no = first_no(bytes(), k, out.len());
+    store(bytes(), no, k, out, size)
+}
+
+/// The lists of a call with this answer. With a number the list is as it was and the size 0.
+fn store(routines: &[Vec<u8>], no: u8, k: usize, out: &mut [u8], size: &mut [u64]) -> u8 {
+    let record: &[u8] = if no == 0 { &routines[k] } else { &[] };
+    out[..record.len()].copy_from_slice(record);
+    size.iter_mut().take(1).for_each(|size| *size = record.len() as u64);
+    no
 }

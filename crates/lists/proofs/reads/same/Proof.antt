@@ -1,4 +1,4 @@
--- `character::same` meets its contract.
+-- `reads::same` meets its contract.
 -- The invariant: the bytes that were compared are the same.
 use mathlib.Core.Path.{_≡_, refl, sym, ap, _∙_}
 use mathlib.Core.List.{List}
@@ -7,9 +7,9 @@ use native.Mathlib.Numerals.{add-one}
 use native.Mathlib.Omega.{arith}
 use lib.ListN.{length, take, getD}
 use lib.Seq.{take-suc, take-all}
-use Rattle.rows.proofs.Tests.{never}
-use Rattle.strings.proofs.character.same.Statement.{statement}
-use Rattle.strings.proofs.character.same.Tie as tie
+use Rattle.lists.proofs.Tests.{never}
+use Rattle.lists.proofs.reads.same.Statement.{statement}
+use Rattle.lists.proofs.reads.same.Tie as tie
 
 abbrev Inv-loop : tie.InvT-loop
 Inv-loop a b i₀ i = (i ≤ length a) × (take i a ≡ take i b)

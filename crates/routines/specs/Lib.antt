@@ -1,0 +1,4 @@
+pub mod Routine
+pub mod Numbered
+pub mod Written
+pub mod Called
