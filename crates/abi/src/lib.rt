@@ -1,4 +1,6 @@
 // The library for C, Rust and others: the calls over numbers and lists.
+#![tactic(auto)]
+
 pub mod check;
 pub mod export;
 pub mod file;

@@ -1,4 +1,6 @@
 // Whether a record meets the assumptions under which its listing may be followed, or which it breaks first.
+#![tactic(auto)]
+
 pub mod blocks;
 pub mod check;
 pub mod edges;

@@ -1,4 +1,6 @@
 // Rows for the spreadsheet, and back: a listing's lists as a file of comma-separated rows.
+#![tactic(auto)]
+
 pub mod fields;
 pub mod held;
 pub mod machine;

@@ -1,4 +1,6 @@
 // Prints the record whose instruction bodies are read by columns from standard input, or `no` and a number.
+#![tactic(auto)]
+
 use libc::{STDERR_FILENO, STDOUT_FILENO};
 use lists::parts::part;
 use stdio::input::{bytes_read, read_input};

@@ -1,4 +1,6 @@
 // Prints the command table of rows for the keyer: reads the call's name, LF, the register's name, LF and rows from standard input.
+#![tactic(auto)]
+
 ghost use Rattle.std.specs.Prelude.{◌≡◌, true, ◌≤◌, length, take};
 ghost use Rattle.rows.specs.Lists.{lists_of};
 ghost use Rattle.rows.specs.Rows.{holds_rows};

@@ -1,4 +1,6 @@
 // Lines: their forms, their tokens, and the lines of a plan.
+#![tactic(auto)]
+
 pub mod asm;
 pub mod coded;
 pub mod forms;

@@ -1,4 +1,6 @@
 // Lists the record that is read from standard input: the page of its whole range, or `no` and a number.
+#![tactic(auto)]
+
 ghost use Rattle.std.specs.Prelude.{◌≤◌, length, take};
 ghost use Rattle.page.specs.Page.{page_of};
 ghost use Rattle.program.specs.Output.{Prints};

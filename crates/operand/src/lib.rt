@@ -1,4 +1,6 @@
 // Operands: names of addresses, memory, immediates.
+#![tactic(auto)]
+
 pub mod alike;
 pub mod memory;
 pub mod names;

@@ -1,4 +1,6 @@
 // The call: questions, sizes, lists.
+#![tactic(auto)]
+
 pub mod answered;
 pub mod call;
 pub mod coding;

@@ -1,4 +1,6 @@
 // The record: its header, its arrays, and the questions that a call asks of it before it lists anything.
+#![tactic(auto)]
+
 pub mod asked;
 pub mod atlas;
 pub mod blocks;

@@ -1,4 +1,6 @@
 // Replays stored calls: a corpus of records with the Rust's answers, read from standard input. docs/COMPARISON.md has its format.
+#![tactic(auto)]
+
 ghost use Rattle.std.specs.Prelude.{◌≡◌, ◌<◌};
 ghost use Rattle.replay.specs.Sum.{turn, sum_from, wide_from};
 

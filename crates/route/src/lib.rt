@@ -1,1 +1,2 @@
 // Following a listing leads where the processor goes: definitions and the theorem.
+#![tactic(auto)]

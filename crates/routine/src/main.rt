@@ -1,4 +1,6 @@
 // Prints small routine k as a record, k read in decimal from standard input, or `no 18`.
+#![tactic(auto)]
+
 ghost use Rattle.std.specs.Prelude.{◌≡◌, true, false, ℕ, ◌≤◌, ◌<◌, length, take};
 ghost use Rattle.routine.specs.Output.{Says, Prints};
 

@@ -1,4 +1,6 @@
 // What the programs for a store of records print.
+#![tactic(auto)]
+
 ghost use Rattle.std.specs.Prelude.{◌≤◌, length, take};
 ghost use Rattle.columns.specs.Columns.{bodies, body_bytes};
 ghost use Rattle.store.specs.Output.{Prints};

@@ -1,4 +1,6 @@
 // Prints the record that is read from standard input with its instruction bodies by columns, or `no` and a number.
+#![tactic(auto)]
+
 use libc::{STDERR_FILENO, STDOUT_FILENO};
 use lists::parts::part;
 use stdio::input::{bytes_read, read_input};

@@ -1,4 +1,6 @@
 // Writes the listing of the record that is read from standard input as rows: the file, or `no` and a number.
+#![tactic(auto)]
+
 ghost use Rattle.std.specs.Prelude.{◌≤◌, length, take};
 ghost use Rattle.to_csv.specs.Output.{PrintsRows};
 

@@ -1,3 +1,5 @@
 // The writer of token codes.
+#![tactic(auto)]
+
 pub mod copy;
 pub mod write;

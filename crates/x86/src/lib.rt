@@ -1,4 +1,6 @@
 // What document 01 and Intel's manual say of registers, mnemonics and conditions, by number.
+#![tactic(auto)]
+
 pub mod conditions;
 pub mod conventions;
 pub mod mnemonics;
