@@ -1,0 +1,15 @@
+-- `stores::put_u32s` meets its contract.
+-- The invariant: to store the rest of s where the loop stands is to store all of s where it began.
+use mathlib.Core.Path.{◌≡◌, refl, sym, ◌∙◌}
+use Prim.Native.Nat.{◌≤◌, ◌-◌}
+use native.Mathlib.Omega.{arith}
+use lib.ListN.{length, drop, length-set}
+use Rattle.lists.specs.Put.{put}
+use Rattle.lists.proofs.Storing.{step, done}
+use Rattle.lists.proofs.stores.put_u32s.Goals as goal
+
+pub loop-i-preserved : goal.loop-i-preserved
+loop-i-preserved c = (omega arith, simp length-set (omega arith), step _ _ _ (omega arith) ∙ c.loop-i.invariant.2)
+
+pub returns : goal.returns
+returns c = sym (done _ _ _ (omega arith)) ∙ c.loop-i.invariant.2

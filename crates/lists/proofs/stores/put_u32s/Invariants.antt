@@ -1,0 +1,15 @@
+-- `stores::put_u32s` meets its contract.
+-- The invariant: to store the rest of s where the loop stands is to store all of s where it began.
+use mathlib.Core.Path.{◌≡◌, refl, sym, ◌∙◌}
+use Prim.Native.Nat.{◌≤◌, ◌-◌}
+use native.Mathlib.Omega.{arith}
+use lib.ListN.{length, drop, length-set}
+use Rattle.lists.specs.Put.{put}
+use Rattle.lists.proofs.Storing.{step, done}
+use Rattle.lists.proofs.stores.put_u32s.Given as goal
+
+abbrev pub invariant-loop-i : goal.invariant-loop-i
+invariant-loop-i l = (l.i ≤ l.n) × (length l.out ≡ length l.initial.out) × (put l.i (drop l.i l.s) l.out ≡ put 0 l.s l.initial.out)
+
+abbrev pub decreases-loop-i : goal.decreases-loop-i
+decreases-loop-i l = l.n - l.i
