@@ -1,0 +1,18 @@
+-- `bytes::inside_byte` meets its contract.
+-- The invariant: index k behind the spelling of byte i - 1 is index j of the whole.
+use mathlib.Core.Path.{◌≡◌, refl, ap, sym, ◌∙◌}
+use mathlib.Core.List.{List, ◌++◌}
+use Prim.Native.Nat.{ℕ, ◌-◌, ◌≤◌, ◌<◌, min}
+use native.Mathlib.Omega.{arith}
+use lib.Dec.{ltb}
+use lib.ListN.{length, take, drop, get_or}
+use Rattle.text.specs.Literal.{escapes, closing}
+use Rattle.text.proofs.ByteLaws.{escapes_over, escapes_here, escapes_further}
+use Rattle.text.proofs.bytes.inside_byte.Given as goal
+
+abbrev pub invariant-loop-i : goal.invariant-loop-i
+invariant-loop-i l =
+    (l.i ≤ l.n) × (get_or (escapes (drop l.i (take 80 l.s)) ++ closing (ltb 80 (length l.s))) l.k 0 ≡ get_or (escapes (take 80 l.s) ++ closing (ltb 80 (length l.s))) l.j 0)
+
+abbrev pub decreases-loop-i : goal.decreases-loop-i
+decreases-loop-i l = l.n - l.i

@@ -1,0 +1,15 @@
+-- `lengths::escapes_length` meets its contract.
+-- The invariant: what is summed and the spellings that are left are as long as all of them.
+use Rattle.text.specs.Literal.{escapes}
+use Rattle.text.proofs.LiteralLaws.{escapes_count, escapes_none}
+use lib.ListN.{length, take, drop}
+use native.Mathlib.Omega.{arith}
+use Prim.Native.Nat.{◌≤◌, ◌<◌, ◌+◌, ◌-◌, ◌*◌, min}
+use mathlib.Core.Path.{◌≡◌}
+use Rattle.text.proofs.lengths.escapes_length.Given as goal
+
+abbrev pub invariant-loop-i : goal.invariant-loop-i
+invariant-loop-i l = (l.i ≤ l.n) × (l.sum ≤ 6 * l.i) × (l.sum + length (escapes (drop l.i (take 80 l.s))) ≡ length (escapes (take 80 l.s)))
+
+abbrev pub decreases-loop-i : goal.decreases-loop-i
+decreases-loop-i l = l.n - l.i

@@ -1,0 +1,35 @@
+-- `number::put_hex` meets its contract.
+-- The invariant: to store the digits of w where the loop stands is to store those of v where it began.
+use mathlib.Core.Path.{◌≡◌, refl, sym, ◌∙◌}
+use native.Mathlib.Omega.{arith}
+use lib.ListN.{length}
+use Rattle.text.specs.Number.{hex_text}
+use Rattle.lists.specs.Put.{put}
+use Rattle.lists.specs.PutLaws.{put_past}
+use Rattle.text.specs.NumberLaws.{hex_count_more, hex_some}
+use Rattle.text.proofs.DigitLaws.{turn, last}
+use Rattle.text.proofs.number.put_hex.Goals as goal
+
+pub returns-then-out-eq0 : goal.returns-then-out-eq0
+returns-then-out-eq0 c = record { count = (c.hex_count-n.ensures.0 _, c.hex_count-n.ensures.1); text = sym (put_past _ _ _ (omega arith)) }
+
+pub overflow_sub-i : goal.overflow_sub-i
+overflow_sub-i c = omega (arith, hex_some c.args.upper c.loop-w.w)
+
+pub loop-w-preserved : goal.loop-w-preserved
+loop-w-preserved c =
+    let k = c in
+    let g = k in
+    let b = g in
+    let n = b.args.upper in (
+      omega (arith, hex_count_more n b.loop-w.w (omega arith)),
+      k.store.auto.out ∙ b.loop-w.invariant.1,
+      turn _ _ _ _ _ _ b.loop-w-test.true b.loop-w.invariant.0 g.digit_of.ensures k.store.ensures ∙ b.loop-w.invariant.2,
+    )
+
+pub returns : goal.returns
+returns c = let k = c in
+    let g = k in
+    let b = g in
+    let h = b.hex_count-n.ensures in
+    record { count = (h.0 _, h.1); text = last _ _ _ _ _ b.loop-w-test.false g.digit_of-2.ensures k.store-2.ensures ∙ b.loop-w.invariant.2 }

@@ -1,0 +1,9 @@
+-- `x86::conditions::negate` answers what the definition says of every number.
+-- The column of the table, at the number.
+use Rattle.x86.proofs.Columns.{condition_negated}
+use Rattle.x86.proofs.conditions.negate.Goals as goal
+
+pub returns : goal.returns
+returns c =
+    let s = c in
+    rw c.column.ensures (condition_negated s.args.isa.now s.requires _)

@@ -1,0 +1,9 @@
+-- `x86::conditions::relation_after_test` answers what the definition says of every number.
+-- The column of the table, at the number.
+use Rattle.x86.proofs.Columns.{condition_test}
+use Rattle.x86.proofs.conditions.relation_after_test.Goals as goal
+
+pub returns : goal.returns
+returns c =
+    let s = c in
+    rw c.column.ensures (condition_test s.args.isa.now s.requires _)

@@ -1,0 +1,13 @@
+-- `x86::registers::register_known` says which bytes are registers' numbers.
+-- The table at the number.
+use native.Mathlib.Omega.{arith}
+use Rattle.x86.proofs.Columns.{register_known, missing_length}
+use Rattle.x86.proofs.registers.register_known.Goals as goal
+
+pub plain_u8-requires : goal.plain_u8-requires
+plain_u8-requires c = omega (arith, missing_length _ c.requires)
+
+pub returns : goal.returns
+returns c =
+    let s = c in
+    rw c.plain_u8.ensures.0 (register_known s.args.missing.now s.requires _ (omega arith))

@@ -1,0 +1,9 @@
+-- `x86::registers::register_size` answers what the definition says of every number.
+-- The column of the table, at the number.
+use Rattle.x86.proofs.Columns.{register_sized}
+use Rattle.x86.proofs.registers.register_size.Goals as goal
+
+pub returns : goal.returns
+returns c =
+    let s = c in
+    rw c.column.ensures (register_sized s.args.isa.now s.requires _)
