@@ -1,0 +1,29 @@
+-- `page::put_lines` meets its contract.
+-- The invariant: the lines left, stored from where the loop stands, are all of them stored from where the first begins.
+use mathlib.Core.Path.{◌≡◌, refl}
+use Prim.Native.Nat.{◌+◌, ◌-◌, ◌*◌, ◌≤◌}
+use native.Mathlib.Omega.{arith}
+use lib.ListN.{length}
+use Rattle.page.specs.Page.{lines_end}
+use Rattle.page.proofs.Pieces.{Ahead, lines_start, lines_turn, lines_end_lem, lines_done}
+use borrow.Author.Rules.{rules}
+use Rattle.page.proofs.page.put_lines.Goals as goal
+
+pub loop-j-preserved : goal.loop-j-preserved
+loop-j-preserved c =
+    let a = c.args in
+    let l = c.loop-j in (
+      search rules,
+      search rules,
+      lines_end_lem a.ends.now a.lines.now _ _ _ c.u32_in.ensures.0 c.tokens_end-end.ensures,
+      omega (arith, l.invariant.3),
+      omega (arith, l.invariant.3, l.invariant.4, c.requires.3, c.between-bytes.ensures.1, c.put_line-p.ensures.end.1),
+      lines_turn a.text.now a.ends.now a.lines.now a.addresses.now a.marks.now a.i _ _ _ l.j l.start _ _ _ _ l.p _ _ _ _ c.loop-j-test.true l.invariant.2
+          c.u32_in.ensures.0 c.tokens_end-end.ensures c.between-bytes.ensures.0 c.u16_in.ensures.0 c.u64_in.ensures.0 c.put_line-p.ensures.end.0 c.put_line-p.ensures.text l.invariant.5,
+    )
+
+pub returns : goal.returns
+returns c = let a = c.args in
+    let l = c.loop-j in
+    let p = lines_done a.text.now a.ends.now a.lines.now a.addresses.now a.marks.now a.i _ a.at _ a.k l.j _ _ refl c.loop-j-test.false l.invariant.5 in
+    record { end = p.end; text = p.text }

@@ -1,0 +1,15 @@
+-- `page::put_lines` meets its contract.
+-- The invariant: the lines left, stored from where the loop stands, are all of them stored from where the first begins.
+use mathlib.Core.Path.{◌≡◌, refl}
+use Prim.Native.Nat.{◌+◌, ◌-◌, ◌*◌, ◌≤◌}
+use native.Mathlib.Omega.{arith}
+use lib.ListN.{length}
+use Rattle.page.specs.Page.{lines_end}
+use Rattle.page.proofs.Pieces.{Ahead, lines_start, lines_turn, lines_end_lem, lines_done}
+use Rattle.page.proofs.page.put_lines.Given as goal
+
+abbrev pub invariant-loop-j : goal.invariant-loop-j
+invariant-loop-j l = (length l.out ≡ length l.initial.out) × (l.j ≤ l.last) × (l.start ≡ lines_end l.ends l.lines l.j) × (l.i ≤ l.j) × (l.p ≤ 12 + (l.j - l.i) * 262672) × Ahead l.text l.ends l.lines l.addresses l.marks l.i l.last l.at l.initial.out l.j l.p l.out
+
+abbrev pub decreases-loop-j : goal.decreases-loop-j
+decreases-loop-j l = l.last - l.j

@@ -1,0 +1,12 @@
+-- `read_input` is safe and ends.
+-- Each turn reads a byte or more, and what is read lies within the list.
+use mathlib.Core.Path.{◌≡◌}
+use Prim.Native.Nat.{◌-◌, ◌≤◌}
+use lib.ListN.{length}
+use Rattle.stdio.proofs.input.read_input.Given as goal
+
+abbrev pub invariant-loop-n : goal.invariant-loop-n
+invariant-loop-n l = (length l.list ≡ length l.initial.list) × (l.n ≤ length l.list)
+
+abbrev pub decreases-loop-n : goal.decreases-loop-n
+decreases-loop-n l = length l.list - l.n

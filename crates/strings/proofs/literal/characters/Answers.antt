@@ -1,0 +1,23 @@
+-- `literal::characters` meets its contract.
+-- The invariant: the text begins with the characters that were read.
+use Prim.Native.Nat.{◌-◌}
+use native.Mathlib.Omega.{arith}
+use Rattle.strings.specs.Reading.{Begins}
+use Rattle.strings.proofs.Characters.{begins_none, begins_more, begins_last, begins_all}
+use Rattle.strings.proofs.literal.characters.Goals as goal
+
+pub loop-n-init : goal.loop-n-init
+loop-n-init c = begins_none _
+
+pub returns-then-c-eq0 : goal.returns-then-c-eq0
+returns-then-c-eq0 c =
+    let c₁ = c in
+    let c₂ = c₁ in
+    begins_last _ _ _ _ _ _ c₂.from.ensures.0 c₁.first-c.ensures c₂.loop-n.invariant c.if-c-eq0.true
+
+pub loop-n-preserved : goal.loop-n-preserved
+loop-n-preserved c =
+    let c₁ = c in
+    let c₂ = c₁ in
+    let c₃ = c₂ in
+    begins_more _ _ _ _ _ _ c₂.from.ensures.0 c₁.first-c.ensures c₃.loop-n.invariant (omega (arith, c₃.loop-n-test.true)) c.if-c-eq0.false
