@@ -13,7 +13,7 @@ import sys
 
 TOKEN = re.compile(r'[^\s(){}.;,@"«»\[\]]+')
 QUIET = re.compile(r'"(?:[^"\\\n]|\\.)*"|(?<![^\s(){}.;,@"«»])--[^\n]*')
-RUST_QUIET = re.compile(r'b?"(?:[^"\\]|\\.)*"|//[^\n]*', re.S)
+RUST_QUIET = re.compile(r"""b?'(?:\\[^\n]|[^'\\\n])'|b?"(?:[^"\\]|\\.)*"|//[^\n]*""", re.S)
 MARK = r"(?:(?:pub|abbrev|unfoldable|pattern|axiom) +)*"
 DECLARED = re.compile(rf"(?m)^ *{MARK}([^\s(){{}}.;,@\"«»]+)(?: \{{[^{{}}\n]*\}})* :(?=\s)")
 SEVERAL = re.compile(rf"(?m)^ *{MARK}((?:[^\s(){{}}.;,@\"«»:]+ +)+[^\s(){{}}.;,@\"«»:]+) :(?=\s)")

@@ -4,8 +4,8 @@ use Rattle.lists.specs.Put.{put}
 use Rattle.rows.specs.Lists.{Lists, number_of}
 use Rattle.rows.specs.declared.answer.Sizes.{Sizes}
 use Rattle.rows.specs.declared.answer.Answer.{Answer}
-use Rattle.csv.specs.Called.{written_number, written_size, written_for, file, write_no, Writes, Reads}
-use Rattle.csv.specs.declared.writing.Written.{Written}
+use Rattle.csv_rows.specs.Called.{written_number, written_size, written_for, file, write_no, Writes, Reads}
+use Rattle.csv_rows.specs.declared.writing.Written.{Written}
 use Rattle.abi.specs.Exported.{size_list}
 
 -- the sizes in a list of text bytes, tokens and lines; those past its end are 0

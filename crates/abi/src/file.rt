@@ -2,12 +2,12 @@
 ghost use Rattle.std.specs.Prelude.{[], ◌∷◌, ◌≡◌};
 ghost use Rattle.lists.specs.Put.{put};
 ghost use Rattle.rows.specs.Lists.{lists_of};
-ghost use Rattle.csv.specs.Called.{written_number, written_size};
+ghost use Rattle.csv_rows.specs.Called.{written_number, written_size};
 ghost use Rattle.abi.specs.Rows.{sizes_in, RowsWritten, RowsRead};
 
 use crate::sizes::put_answer;
-use csv::reading::read_rows;
-use csv::writing::{Written, write_rows};
+use csv_rows::reading::read_rows;
+use csv_rows::writing::{Written, write_rows};
 use lists::reads::u64_in;
 use lists::stores::store_u64;
 use rows::answer::Sizes;

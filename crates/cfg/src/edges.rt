@@ -10,7 +10,7 @@ use record::blocks::{Address, Place, is_before, is_below, same_address, same_pla
 
 // What is wanted of an edge: a True edge to a place, one to a place behind the first and before the second, or one to a place
 // that is not of kind Fall.
-#[derive(Drop)]
+#[derive(Clone, Copy)]
 pub enum Wanted {
     TrueTo(Place),
     Between(Place, Place),
@@ -18,7 +18,7 @@ pub enum Wanted {
 }
 
 // What reading edges up to the first wanted one came to.
-#[derive(Drop)]
+#[derive(Clone, Copy)]
 pub struct Looked {
     pub found: bool,
     pub looks: u64,

@@ -12,7 +12,7 @@ use crate::tests::{closes_loop, enters_inside, region_escapes};
 use record::blocks::{FoundPlace, Place, is_before};
 
 // A do-loop up to the block at a place, an if-region up to a place, or a plain block.
-#[derive(Drop)]
+#[derive(Clone, Copy)]
 pub enum Shape {
     Loop(Place),
     Region(Place),
@@ -20,14 +20,14 @@ pub enum Shape {
 }
 
 // What stands at a place, and how many edges were read to tell.
-#[derive(Drop)]
+#[derive(Clone, Copy)]
 pub struct Seen {
     pub shape: Shape,
     pub looks: u64,
 }
 
 // What the search for a loop came to.
-#[derive(Drop)]
+#[derive(Clone, Copy)]
 struct Sought {
     place: FoundPlace,
     looks: u64,

@@ -22,7 +22,7 @@ use record::header::{Header, read_header};
 use record::layout::{bodies_at, edge_kinds_at, pairs_at, size, targets_at, texts_at};
 
 // A record whose listing may be followed, the first assumption that it breaks, or the number of the first question that it gets a no to.
-#[derive(Drop)]
+#[derive(Clone, Copy)]
 pub enum Checked {
     Follows,
     Broken(u8),

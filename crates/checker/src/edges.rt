@@ -7,7 +7,7 @@ ghost use Rattle.checker.specs.Edges.{of_kind};
 use lists::reads::{u8_at, u64_at};
 
 // Uncond, or Fall and False.
-#[derive(Drop)]
+#[derive(Clone, Copy)]
 pub enum Kind {
     Uncond,
     Onward,

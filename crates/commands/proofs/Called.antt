@@ -16,8 +16,8 @@ use Rattle.rows.specs.Lists.{Lists, over}
 use Rattle.rows.specs.Rows.{holds_rows}
 use Rattle.rows.specs.declared.answer.Sizes.{Sizes}
 use Rattle.rows.proofs.Held.{held}
-use Rattle.csv.specs.Format.{some}
-use Rattle.csv.proofs.Calls as writing
+use Rattle.csv_rows.specs.Format.{some}
+use Rattle.csv_rows.proofs.Calls as writing
 use Rattle.commands.specs.Table.{Entry, entries_from, Table, table_of}
 use Rattle.commands.specs.Called.{table, table_no, Makes}
 use Rattle.commands.specs.Making.{made, room_no, Measured, Fills}

@@ -14,9 +14,9 @@ use Rattle.lists.specs.Put.{put}
 use Rattle.text.specs.Number.{digit, hex_digits}
 use Rattle.text.specs.NumberLaws.{hex_digits_length}
 use Rattle.tokens.specs.Lines.{between}
-use Rattle.csv.specs.Writing.{Wrote}
-use Rattle.csv.proofs.Wrote.{wrote_one, wrote_byte, wrote_then, wrote_to}
-use Rattle.csv.proofs.Going.{Going, go_room}
+use Rattle.csv_rows.specs.Writing.{Wrote}
+use Rattle.csv_rows.proofs.Wrote.{wrote_one, wrote_byte, wrote_then, wrote_to}
+use Rattle.csv_rows.proofs.Going.{Going, go_room}
 use Rattle.commands.specs.Table.{Table}
 use Rattle.commands.specs.Called.{byte_end}
 use Rattle.commands.specs.Printed.{pairs, value_text, row_line, row_lines}

@@ -5,7 +5,7 @@ use Rattle.tokens.specs.Lines.{between}
 use Rattle.rows.specs.Lists.{Lists, left}
 use Rattle.rows.specs.Rows.{row_at, holds_rows}
 use Rattle.rows.specs.declared.answer.Sizes.{Sizes}
-use Rattle.csv.specs.Format.{some}
+use Rattle.csv_rows.specs.Format.{some}
 use Rattle.strings.specs.Called.{IsLiteral}
 use Rattle.commands.specs.Calls.{token_of, is_assign, is_call, calls_to, begins_with}
 use Rattle.commands.specs.Table.{Table, entries_from, table_of}

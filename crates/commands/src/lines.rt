@@ -5,8 +5,8 @@ ghost use Rattle.rows.specs.Lists.{lists_of};
 ghost use Rattle.rows.specs.Rows.{row_at};
 ghost use Rattle.commands.specs.Calls.{token_of, is_call, calls_to, begins_with};
 
-use csv::held::end_at;
-use csv::writing::text_between;
+use csv_rows::held::end_at;
+use csv_rows::writing::text_between;
 use lists::parts::part;
 use lists::reads::{same, u8_at, u16_in};
 

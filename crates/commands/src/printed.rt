@@ -2,13 +2,13 @@
 ghost use Rattle.std.specs.Prelude.{◌≡◌, true, ◌+◌, ◌≤◌, length};
 ghost use Rattle.lists.specs.Put.{put};
 ghost use Rattle.text.specs.Number.{hex_digits};
-ghost use Rattle.csv.specs.Writing.{Wrote};
+ghost use Rattle.csv_rows.specs.Writing.{Wrote};
 ghost use Rattle.commands.specs.Table.{table_lists};
 ghost use Rattle.commands.specs.Called.{byte_end};
 ghost use Rattle.commands.specs.Printed.{pairs, value_text, row_line, table_text};
 
-use csv::numbers::put_sixteen;
-use csv::writing::text_between;
+use csv_rows::numbers::put_sixteen;
+use csv_rows::writing::text_between;
 use lists::reads::u64_in;
 use lists::stores::store;
 use text::number::digit_of;

@@ -8,21 +8,21 @@ ghost use Rattle.commands.specs.Making.{made, no_mark, room_no, Measured, Fills}
 
 use crate::lines::calls_to;
 use crate::set::{bytes_for, bytes_of};
-use csv::held::lists_hold;
+use csv_rows::held::lists_hold;
 use lists::parts::part;
 use lists::reads::u64_in;
 use lists::stores::{put_bytes, store_u64};
 use rows::answer::Sizes;
 
 // How many bytes and rows the table has, or the number of the question that got a no.
-#[derive(Drop)]
+#[derive(Clone, Copy)]
 pub enum Tabled {
     Entries(usize, usize),
     No(u8),
 }
 
 // How many bytes and rows there are.
-#[derive(Drop)]
+#[derive(Clone, Copy)]
 struct Size {
     bytes: usize,
     rows: usize,

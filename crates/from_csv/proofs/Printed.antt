@@ -14,10 +14,10 @@ use Rattle.rows.specs.declared.answer.Sizes.{Sizes}
 use Rattle.rows.specs.declared.answer.Answer.{Answer}
 use Rattle.rows.specs.declared.answer.Answer.TheVariants.{Listed, No}
 use Rattle.rows.proofs.Listed.{refused_some, text_taken, ends_taken, addresses_taken, marks_taken, lines_taken}
-use Rattle.csv.specs.Called.{Reads}
-use Rattle.csv.specs.Format.{rows_text}
-use Rattle.csv.proofs.Fit.{writable_good}
-use Rattle.csv.proofs.Room.{marks_length, lines_length}
+use Rattle.csv_rows.specs.Called.{Reads}
+use Rattle.csv_rows.specs.Format.{rows_text}
+use Rattle.csv_rows.proofs.Fit.{writable_good}
+use Rattle.csv_rows.proofs.Room.{marks_length, lines_length}
 use Rattle.page.specs.Page.{refusal, page_of}
 use Rattle.from_csv.specs.Output.{IsFile, page_part, page_parts, refused_part, Prints}
 use Rattle.from_csv.proofs.Parts.{whole_page}

@@ -14,10 +14,10 @@ use Rattle.tokens.specs.Lines.{end_at}
 use Rattle.rows.specs.Lists.{Lists, sizes_of, rooms_of, room_no}
 use Rattle.rows.specs.Rows.{Row, row_lists}
 use Rattle.rows.proofs.Held.{token_inside, row_inside, text_rise}
-use Rattle.csv.specs.Format.{rows_text, good_rows}
-use Rattle.csv.proofs.Fit.{addresses_fit, rows_held}
-use Rattle.csv.proofs.Holding.{holding}
-use Rattle.csv.proofs.Room.{addresses_length, text_length, enough}
+use Rattle.csv_rows.specs.Format.{rows_text, good_rows}
+use Rattle.csv_rows.proofs.Fit.{addresses_fit, rows_held}
+use Rattle.csv_rows.proofs.Holding.{holding}
+use Rattle.csv_rows.proofs.Room.{addresses_length, text_length, enough}
 use Rattle.page.specs.Page.{count_line, tokens_end, lines_end, lines_text}
 use Rattle.page.proofs.Lengths.{count_long, lines_short}
 use Rattle.from_csv.specs.Output.{part_count, page_part}

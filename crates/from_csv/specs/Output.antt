@@ -4,8 +4,8 @@ use Rattle.std.specs.Prelude.{ℕ, zero, suc, ◌-◌, ◌*◌, ◌≤◌, ◌<�
 use Rattle.lists.specs.Choice.{pick}
 use Rattle.rows.specs.Lists.{Lists}
 use Rattle.rows.specs.Rows.{Row, row_lists}
-use Rattle.csv.specs.Format.{rows_text}
-use Rattle.csv.specs.Called.{writable}
+use Rattle.csv_rows.specs.Format.{rows_text}
+use Rattle.csv_rows.specs.Called.{writable}
 use Rattle.page.specs.Page.{count_line, refusal, lines_text, page_of}
 
 -- rows of at most 262,144 bytes, whatever the writer can produce

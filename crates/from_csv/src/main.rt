@@ -8,7 +8,7 @@ ghost use Rattle.rows.specs.Lists.{lists_of};
 ghost use Rattle.page.specs.Page.{refusal};
 ghost use Rattle.from_csv.specs.Output.{part_count, page_part, Prints};
 
-use csv::reading::read_rows;
+use csv_rows::reading::read_rows;
 use libc::{STDERR_FILENO, STDOUT_FILENO};
 use lists::parts::{part, part_u16, part_u32, part_u64};
 use page::number::put_refusal;

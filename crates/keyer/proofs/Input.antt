@@ -13,7 +13,7 @@ use lib.Seq.{take-append_seam, drop-cons}
 use borrow.Author.Tests.{eqb-true, eqb-false, eq-eqb, ne_eqb}
 use Rattle.lists.specs.Every.{both_yes, neither}
 use Rattle.lists.proofs.Tests.{split, never}
-use Rattle.csv.specs.Format.{rows_text, some}
+use Rattle.csv_rows.specs.Format.{rows_text, some}
 use Rattle.page.specs.Page.{refusal}
 use Rattle.keyer.specs.Output.{is_line, IsInput, named, Prints}
 use Rattle.keyer.specs.Parts.{line_size, PrintsTable}

@@ -19,11 +19,11 @@ use Rattle.rows.specs.declared.answer.Answer.TheVariants.{Listed, No}
 use Rattle.rows.proofs.Back.{leaves_rows, rows_back, begins_alone}
 use Rattle.rows.proofs.Listed.{refused_some, lines_size}
 use Rattle.lists.proofs.Tests.{never}
-use Rattle.csv.specs.Format.{rows_text}
-use Rattle.csv.specs.Called.{writable, Reads}
-use Rattle.csv.proofs.Fit.{writable_good, rows_fit}
-use Rattle.csv.proofs.Holding.{holding}
-use Rattle.csv.proofs.Room.{addresses_length, enough}
+use Rattle.csv_rows.specs.Format.{rows_text}
+use Rattle.csv_rows.specs.Called.{writable, Reads}
+use Rattle.csv_rows.proofs.Fit.{writable_good, rows_fit}
+use Rattle.csv_rows.proofs.Holding.{holding}
+use Rattle.csv_rows.proofs.Room.{addresses_length, enough}
 use Rattle.page.specs.Page.{refusal}
 use Rattle.commands.specs.Table.{Table, table_lists, entries_from, table_of}
 use Rattle.commands.specs.Called.{counts_of, answer_for, table, table_no, Makes}

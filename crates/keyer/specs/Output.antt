@@ -2,8 +2,8 @@
 use Rattle.std.specs.Prelude.{ℕ, ◌≤◌, Bool, true, false, ◌&&◌, not, List, ◌∷◌, ◌++◌, ◌≡◌, eqb, length}
 use Rattle.lists.specs.Every.{every}
 use Rattle.rows.specs.Rows.{Row, row_lists}
-use Rattle.csv.specs.Format.{rows_text, some}
-use Rattle.csv.specs.Called.{writable}
+use Rattle.csv_rows.specs.Format.{rows_text, some}
+use Rattle.csv_rows.specs.Called.{writable}
 use Rattle.page.specs.Page.{refusal}
 use Rattle.commands.specs.Table.{Table, entries_from, table_of}
 use Rattle.commands.specs.Printed.{table_text}

@@ -4,8 +4,8 @@ use Rattle.lists.specs.Choice.{pick}
 use Rattle.rows.specs.Lists.{Lists}
 use Rattle.rows.specs.Rows.{Row}
 use Rattle.rows.specs.declared.answer.Sizes.{Sizes}
-use Rattle.csv.specs.Format.{rows_text}
-use Rattle.csv.specs.Called.{writable}
+use Rattle.csv_rows.specs.Format.{rows_text}
+use Rattle.csv_rows.specs.Called.{writable}
 use Rattle.page.specs.Page.{refusal}
 use Rattle.commands.specs.Called.{table}
 use Rattle.commands.specs.Printed.{table_text}

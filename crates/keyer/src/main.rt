@@ -9,7 +9,7 @@ ghost use Rattle.keyer.specs.Parts.{line_size, commands_text, PrintsTable};
 
 use commands::printed::put_table;
 use commands::table::{Tabled, command_table};
-use csv::reading::read_rows;
+use csv_rows::reading::read_rows;
 use libc::{STDERR_FILENO, STDOUT_FILENO};
 use lists::parts::{part, part_u64};
 use lists::reads::from;

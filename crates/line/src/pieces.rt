@@ -30,7 +30,7 @@ use x86::width::return_register;
 
 // What a line is printed with: its instruction, the first instruction of its block and of its range, its place, the registers
 // written.
-#[derive(Drop)]
+#[derive(Clone, Copy)]
 pub struct Site {
     pub at: u16,
     pub first: u16,

@@ -7,7 +7,7 @@ ghost use Rattle.operand.specs.Sized.{sized_of, sized_difference};
 use lists::signed::signed_at;
 
 // A number's sign and size: the sum of an i64 and an i32 has one too.
-#[derive(Drop)]
+#[derive(Clone, Copy)]
 pub struct Sized {
     pub negative: bool,
     pub size: u64,

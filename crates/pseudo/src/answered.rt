@@ -4,7 +4,7 @@ ghost use Rattle.pseudo.specs.Called.{looks_of};
 
 use rows::answer::Answer;
 
-#[derive(Drop)]
+#[derive(Clone, Copy)]
 pub struct Answered {
     pub answer: Answer,
     pub looks: u64,

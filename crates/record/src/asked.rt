@@ -16,7 +16,7 @@ use lists::reads::from;
 use x86::registers::register_exists;
 
 // The answer: the header of a record that may be listed, or the number of the question that got a no.
-#[derive(Drop)]
+#[derive(Clone, Copy)]
 pub enum Asked {
     Yes(Header),
     No(u8),

@@ -6,14 +6,14 @@ ghost use Rattle.record.specs.Blocks.{start_at, instructions_in, edges_in, label
 use crate::search::{Found, first_of};
 use lists::reads::{u8_at, u16_at, u64_at};
 
-#[derive(Drop)]
+#[derive(Clone, Copy)]
 pub struct Address(pub u64);
 
-#[derive(Drop)]
+#[derive(Clone, Copy)]
 pub struct Place(pub u16);
 
 // A place that a search found.
-#[derive(Drop)]
+#[derive(Clone, Copy)]
 pub enum FoundPlace {
     AtPlace(Place),
     NoPlace,

@@ -5,7 +5,7 @@ ghost use Rattle.record.specs.Header.{header_of, fields_ok, limits_ok};
 use lists::reads::{u8_at, u16_at, u32_at};
 use lists::signed::{is_zero, signed32};
 
-#[derive(Drop)]
+#[derive(Clone, Copy)]
 pub struct Header {
     pub bits: u16,
     pub convention: u16,

@@ -5,7 +5,7 @@ ghost use Rattle.record.specs.Search.{number_at, Rises, find_from};
 use lists::reads::{plain_u64, u64_at};
 
 // A number that a search found.
-#[derive(Drop)]
+#[derive(Clone, Copy)]
 pub enum Found {
     At(u16),
     Nothing,

@@ -5,7 +5,7 @@ ghost use Rattle.routines.specs.Numbered.{endings, routine_at};
 ghost use Rattle.routines.specs.Written.{inside};
 
 // A return, a move that falls to the next block, a jump to a block, a conditional jump to a block.
-#[derive(Drop)]
+#[derive(Clone, Copy)]
 pub enum Ending {
     Ret,
     Fall,

@@ -2,7 +2,7 @@
 ghost use Rattle.std.specs.Prelude.{◌≡◌};
 ghost use Rattle.rows.specs.Lists.{room_no};
 
-#[derive(Drop)]
+#[derive(Clone, Copy)]
 pub struct Sizes {
     pub text: usize,
     pub tokens: usize,
@@ -10,7 +10,7 @@ pub struct Sizes {
 }
 
 // The lengths of the seven lists.
-#[derive(Drop)]
+#[derive(Clone, Copy)]
 pub struct Rooms {
     pub text: usize,
     pub ends: usize,
@@ -42,7 +42,7 @@ pub fn room_no(sizes: Sizes, rooms: Rooms) -> u8
 }
 
 // A listing with its sizes, or the number of the question that got a no.
-#[derive(Drop)]
+#[derive(Clone, Copy)]
 pub enum Answer {
     Listed(Sizes),
     No(u8),

@@ -5,7 +5,7 @@ ghost use Rattle.stdio.specs.Input.{bytes_read};
 use libc::{STDERR_FILENO, STDIN_FILENO};
 
 // What reading the input came to: how many bytes there are.
-#[derive(Drop)]
+#[derive(Clone, Copy)]
 pub enum Input {
     All(usize),
     Failed,

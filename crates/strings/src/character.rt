@@ -8,7 +8,7 @@ use lists::reads::{same, u8_at};
 use text::literal::put_escape;
 
 // A byte, and how many bytes its spelling has: 0 if there is no character.
-#[derive(Drop)]
+#[derive(Clone, Copy)]
 pub struct Character {
     pub byte: u8,
     pub size: usize,

@@ -5,7 +5,7 @@ use crate::character::first;
 use lists::reads::{from, same, u8_at};
 
 // How many characters, and how many bytes they have.
-#[derive(Drop)]
+#[derive(Clone, Copy)]
 struct Run {
     count: usize,
     size: usize,
@@ -13,7 +13,7 @@ struct Run {
 
 // What a text says: whether it is a literal, whether of a wide string and of one that was cut, where its characters begin, and how many there
 // are.
-#[derive(Drop)]
+#[derive(Clone, Copy)]
 pub struct Literal {
     pub ok: bool,
     pub wide: bool,

@@ -8,7 +8,7 @@ use lists::reads::from;
 use lists::stores::store;
 
 // How many bytes the string has, whether it was wide, whether it was cut; or the number of the question that got a no.
-#[derive(Drop)]
+#[derive(Clone, Copy)]
 pub enum Back {
     String(usize, bool, bool),
     No(u8),

@@ -13,7 +13,7 @@ use cfg::tests::has_outside_jump_to;
 use record::blocks::{Place, is_before, same_place};
 
 // Where a writer's lines end, and how many edges were read for them.
-#[derive(Drop)]
+#[derive(Clone, Copy)]
 pub struct Written {
     pub next: usize,
     pub looks: u64,

@@ -19,12 +19,12 @@ use Rattle.rows.specs.declared.answer.Answer.TheVariants.{Listed, No}
 use Rattle.rows.proofs.Held.{Held, held}
 use Rattle.rows.proofs.Listed.{lines_size}
 use Rattle.rows.proofs.Back.{begins_alone, rows_back}
-use Rattle.csv.specs.Format.{tokens_text, address_text, row_text, rows_text}
-use Rattle.csv.specs.Called.{written_number, written_size, written_for, file, write_no, Writes}
-use Rattle.csv.specs.declared.writing.Written.{Written}
-use Rattle.csv.specs.declared.writing.Written.TheVariants as case
-use Rattle.csv.proofs.Heads.{address_size}
-use Rattle.csv.proofs.Fit.{rows_fit, writable_good}
+use Rattle.csv_rows.specs.Format.{tokens_text, address_text, row_text, rows_text}
+use Rattle.csv_rows.specs.Called.{written_number, written_size, written_for, file, write_no, Writes}
+use Rattle.csv_rows.specs.declared.writing.Written.{Written}
+use Rattle.csv_rows.specs.declared.writing.Written.TheVariants as case
+use Rattle.csv_rows.proofs.Heads.{address_size}
+use Rattle.csv_rows.proofs.Fit.{rows_fit, writable_good}
 use Rattle.record.specs.Header.{header_of}
 use Rattle.pseudo.specs.Listed.{record_lists}
 use Rattle.pseudo.specs.Called.{Called}

@@ -2,8 +2,8 @@
 use Rattle.std.specs.Prelude.{ℕ, ◌≤◌, true, List, ◌≡◌, length}
 use Rattle.rows.specs.Lists.{Lists}
 use Rattle.rows.specs.Rows.{Row, rows_in, row_lists}
-use Rattle.csv.specs.Format.{rows_text}
-use Rattle.csv.specs.Called.{writable}
+use Rattle.csv_rows.specs.Format.{rows_text}
+use Rattle.csv_rows.specs.Called.{writable}
 use Rattle.program.specs.Output.{program_no, whole_lists, Prints}
 
 -- all rows of a listing

@@ -4,7 +4,7 @@
 ghost use Rattle.std.specs.Prelude.{◌≤◌, length, take};
 ghost use Rattle.to_csv.specs.Output.{PrintsRows};
 
-use csv::writing::{Written, write_rows};
+use csv_rows::writing::{Written, write_rows};
 use libc::{STDERR_FILENO, STDOUT_FILENO};
 use lists::parts::part;
 use page::number::put_refusal;

@@ -17,7 +17,7 @@ use text::digits::{write_num, write_prefixed};
 use text::literal::put_literal;
 
 // Bytes, tokens and lines written.
-#[derive(Drop)]
+#[derive(Clone, Copy)]
 pub struct Cursor {
     pub text: usize,
     pub tokens: usize,

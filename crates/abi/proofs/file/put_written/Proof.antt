@@ -1,7 +1,7 @@
 -- `put_written` meets its contract.
 -- By the answer's case.
-use Rattle.csv.specs.Called.{written_number, written_size}
-use Rattle.csv.specs.declared.writing.Written.TheVariants.{File, No}
+use Rattle.csv_rows.specs.Called.{written_number, written_size}
+use Rattle.csv_rows.specs.declared.writing.Written.TheVariants.{File, No}
 use Rattle.abi.proofs.Cases.{case_set}
 use borrow.Author.Rules.{rules}
 use Rattle.abi.proofs.file.put_written.Statement.{statement}

@@ -7,4 +7,4 @@ use Rattle.codes.proofs.code.code_num.Goals as goal
 pub returns : goal.returns
 returns c t s =
     let a = c.args in
-    number_coded t s a.codes.now _ 2 (omega arith) 0 _ a.size a.negative (rw (← c.number_of_lem.ensures.0) c.put_valued.ensures) c.num_length.ensures.0
+    number_coded t s a.codes.now _ 2 (omega arith) 0 _ a.size a.negative (rw (← c.number_of.ensures.0) c.put_valued.ensures) c.num_length.ensures.0

@@ -5,4 +5,4 @@ use Rattle.std.proofs.Common.{set, ◌∙◌, arith, length-set, rules}
 use Rattle.codes.proofs.state.put_end.Goals as goal
 
 pub returns : goal.returns
-returns c = ended c.args.codes.now _ _ c.requires c.wrapping_add_u64.ensures c.store_code.ensures
+returns c = ended c.args.codes.now _ _ c.requires c.wrapping_add_u64.ensures.value c.store_code.ensures

@@ -4,7 +4,7 @@ use Prim.Native.Nat.{◌-◌}
 use native.Mathlib.Omega.{arith}
 use lib.ListN.{length}
 use borrow.Author.Rules.{rules}
-use Rattle.csv.proofs.Going.{Going, going, go_length, go_turn, go_end}
+use Rattle.csv_rows.proofs.Going.{Going, going, go_length, go_turn, go_end}
 use Rattle.commands.proofs.Printing.{pairs_from, pairs_more, pairs_none, pairs_all, pairs_room}
 use Rattle.commands.proofs.printed.put_pairs.Statement.{statement}
 use Rattle.commands.proofs.printed.put_pairs.Tie as tie

@@ -1,7 +1,7 @@
 -- A row's line: `put_row_line` meets its contract.
 -- Sixteen digits, a space, the value and LF, one behind the other.
 use native.Mathlib.Omega.{arith}
-use Rattle.csv.proofs.Wrote.{wrote_length}
+use Rattle.csv_rows.proofs.Wrote.{wrote_length}
 use Rattle.commands.proofs.Printing.{sixteen_end, line_length, wrote_line}
 use Rattle.commands.specs.Table.{table_lists}
 use borrow.Author.Rules.{rules}

@@ -2,7 +2,7 @@
 -- What is left from here is one row's line and what is left behind it.
 use Prim.Native.Nat.{◌-◌}
 use native.Mathlib.Omega.{arith}
-use Rattle.csv.proofs.Going.{Going, going, go_length, go_turn, go_end}
+use Rattle.csv_rows.proofs.Going.{Going, going, go_length, go_turn, go_end}
 use Rattle.commands.specs.Table.{table_lists}
 use Rattle.commands.proofs.Printing.{lines_from, lines_more, lines_none, lines_room, lines_whole}
 use Rattle.commands.proofs.printed.put_table.Statement.{statement}

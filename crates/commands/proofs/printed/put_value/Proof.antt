@@ -3,7 +3,7 @@
 use mathlib.Core.Path.{ap, sym}
 use native.Mathlib.Omega.{arith}
 use lib.ListN.{length}
-use Rattle.csv.proofs.Wrote.{wrote_one}
+use Rattle.csv_rows.proofs.Wrote.{wrote_one}
 use Rattle.commands.proofs.Printing.{none_text, some_text}
 use borrow.Author.Rules.{rules}
 use Rattle.commands.proofs.printed.put_value.Statement.{statement}

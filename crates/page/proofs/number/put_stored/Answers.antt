@@ -7,4 +7,4 @@ use Rattle.page.proofs.number.put_stored.Goals as goal
 pub returns-in-No : goal.returns-in-No
 returns-in-No c =
     let p = c.put_refusal in
-    rw c.answer-in-No-1.given.1 (stands_whole _ _ _ _ p.ensures.end.0 p.ensures.text (omega (arith, p.ensures.end.1, c.requires)))
+    rw c.in-No.is (stands_whole _ _ _ _ p.ensures.end.0 p.ensures.text (omega (arith, p.ensures.end.1, c.requires)))

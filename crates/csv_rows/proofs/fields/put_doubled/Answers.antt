@@ -1,0 +1,16 @@
+-- A text with its quotes doubled: `put_doubled` meets its contract.
+-- What is left from here is one byte and what is left behind it.
+use Prim.Native.Nat.{◌-◌}
+use native.Mathlib.Omega.{arith}
+use lib.ListN.{length}
+use Rattle.csv_rows.proofs.Going.{Going, going, go_length, go_turn, go_end, text_from, text_more, text_none, text_all, text_room}
+use Rattle.csv_rows.proofs.fields.put_doubled.Goals as goal
+
+pub put_char-p-requires : goal.put_char-p-requires
+put_char-p-requires c = text_room _ c.loop-i.invariant c.loop-i-test.true c.requires
+
+pub loop-i-preserved : goal.loop-i-preserved
+loop-i-preserved c = go_turn c.loop-i.invariant (text_more _ _ c.loop-i-test.true) c.put_char-p.ensures
+
+pub returns : goal.returns
+returns c = rw text_all at (go_end c.loop-i.invariant (text_none _ _ c.loop-i-test.false))

@@ -1,0 +1,12 @@
+-- Whether each row is one: `rows_held` meets its contract.
+-- All before the one at hand are.
+use Prim.Native.Nat.{◌-◌}
+use native.Mathlib.Omega.{arith}
+use Rattle.csv_rows.proofs.Checks.{Rows, rows_start, rows_turn, rows_fail, rows_all}
+use Rattle.csv_rows.proofs.held.rows_held.Given as goal
+
+abbrev pub invariant-loop-i : goal.invariant-loop-i
+invariant-loop-i l = Rows l.addresses l.marks l.lines l.m l.n l.i
+
+abbrev pub decreases-loop-i : goal.decreases-loop-i
+decreases-loop-i l = l.m - l.i

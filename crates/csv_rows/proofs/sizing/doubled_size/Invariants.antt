@@ -1,0 +1,13 @@
+-- The size of a text with its quotes doubled: `doubled_size` meets its contract.
+-- What is added and what is left make up the whole.
+use Prim.Native.Nat.{◌-◌}
+use native.Mathlib.Omega.{arith}
+use lib.ListN.{length}
+use Rattle.csv_rows.proofs.Sums.{Text, text_start_lem, text_turn, text_end}
+use Rattle.csv_rows.proofs.sizing.doubled_size.Given as goal
+
+abbrev pub invariant-loop-i : goal.invariant-loop-i
+invariant-loop-i l = Text l.s l.n l.i
+
+abbrev pub decreases-loop-i : goal.decreases-loop-i
+decreases-loop-i l = length l.s - l.i

@@ -1,0 +1,19 @@
+-- Tokens one behind the other: `put_tokens` meets its contract.
+-- What is left from here is one token and what is left behind it.
+use Prim.Native.Nat.{◌-◌}
+use mathlib.Core.Path.{◌≡◌}
+use native.Mathlib.Omega.{arith}
+use Rattle.tokens.specs.Lines.{end_at}
+use Rattle.csv_rows.specs.Writing.{tokens_from}
+use Rattle.csv_rows.proofs.Going.{Going, going, go_length, go_turn, go_end}
+use Rattle.csv_rows.proofs.Rows.{tokens_more, tokens_none, token_room}
+use Rattle.csv_rows.proofs.writing.put_tokens.Goals as goal
+
+pub put_token-p-requires : goal.put_token-p-requires
+put_token-p-requires c = token_room _ _ _ _ _ c.loop-j.invariant.0 c.loop-j-test.true c.loop-j.invariant.1 c.end_at-y.ensures c.text_between-s.ensures c.u8_at.ensures.0 c.requires
+
+pub loop-j-preserved : goal.loop-j-preserved
+loop-j-preserved c = (go_turn c.loop-j.invariant.0 (tokens_more _ _ _ _ _ c.loop-j-test.true c.loop-j.invariant.1 c.end_at-y.ensures c.text_between-s.ensures c.u8_at.ensures.0) c.put_token-p.ensures, c.end_at-y.ensures)
+
+pub returns : goal.returns
+returns c = go_end c.loop-j.invariant.0 (tokens_none _ _ _ _ _ c.loop-j-test.false)

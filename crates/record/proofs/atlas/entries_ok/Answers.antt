@@ -1,0 +1,25 @@
+-- `entries_ok` meets its contract.
+-- The invariant: so far addresses rise and kinds are right, or `ok` is false; `before` is the address of the entry before.
+use mathlib.Core.Path.{◌≡◌}
+use mathlib.Core.Bool.{◌&&◌}
+use Prim.Native.Nat.{◌+◌, ◌≤◌, ◌-◌}
+use native.Mathlib.Omega.{arith}
+use borrow.Author.Rules.{rules}
+use Rattle.lists.specs.Choice.{all_below}
+use Rattle.lists.specs.Below.{all_more}
+use Rattle.record.specs.Atlas.{entry_address, entry_kind, entry_kind_ok, rises, entries_ok}
+use Rattle.record.proofs.atlas.entries_ok.Goals as goal
+
+pub loop-k-preserved : goal.loop-k-preserved
+loop-k-preserved c =
+    let l = c in
+    let a = c.entry_address-a in
+    let e : l.loop-k.k + 1 - 1 ≡ l.loop-k.k = omega arith in
+    (search rules, rw e a.ensures, simp (all_more, l.loop-k.invariant.2, l.loop-k.invariant.1, a.ensures, c.entry_kind_ok.ensures, c.entry_kind.ensures))
+
+pub returns : goal.returns
+unfolding entries_ok
+returns c =
+    let l = c in
+    let e : l.loop-k.k ≡ l.args.atlas = omega arith in
+    simp (l.loop-k.invariant.2, e)

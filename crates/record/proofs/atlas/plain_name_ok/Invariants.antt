@@ -1,0 +1,17 @@
+-- `plain_name_ok` meets its contract.
+-- The invariant: so far every byte suits, or `ok` is false.
+use mathlib.Core.Path.{◌≡◌}
+use mathlib.Core.Bool.{◌&&◌}
+use lib.Dec.{leb}
+use Prim.Native.Nat.{◌≤◌, ◌-◌}
+use native.Mathlib.Omega.{arith}
+use Rattle.lists.specs.Bytes.{u8_at}
+use Rattle.lists.specs.Choice.{all_below}
+use Rattle.lists.specs.Below.{all_more}
+use Rattle.record.proofs.atlas.plain_name_ok.Given as goal
+
+abbrev pub invariant-loop-j : goal.invariant-loop-j
+invariant-loop-j l = (l.j ≤ l.n) × (l.ok ≡ all_below (λ m. leb 0x20 (u8_at l.text m) && leb (u8_at l.text m) 0x7e) l.j)
+
+abbrev pub decreases-loop-j : goal.decreases-loop-j
+decreases-loop-j l = l.n - l.j

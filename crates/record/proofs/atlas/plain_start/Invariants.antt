@@ -1,0 +1,14 @@
+-- `plain_start` meets its contract.
+-- The invariant: the lengths so far, summed, each below 256.
+use mathlib.Core.Path.{◌≡◌}
+use Prim.Native.Nat.{◌+◌, ◌*◌, ◌≤◌, ◌-◌}
+use native.Mathlib.Omega.{arith}
+use Rattle.record.specs.Atlas.{text_start}
+use Rattle.record.proofs.Running.{text_more}
+use Rattle.record.proofs.atlas.plain_start.Given as goal
+
+abbrev pub invariant-loop-i : goal.invariant-loop-i
+invariant-loop-i l = (l.i ≤ l.k) × (l.sum ≤ 255 * l.i) × (l.sum ≡ text_start l.pairs l.i)
+
+abbrev pub decreases-loop-i : goal.decreases-loop-i
+decreases-loop-i l = l.k - l.i

@@ -1,0 +1,17 @@
+-- Question 10: `spans_ok` meets its contract.
+-- The invariant: so far every span is right, or `ok` is false.
+use mathlib.Core.Path.{◌≡◌}
+use Prim.Native.Nat.{◌≤◌, ◌-◌}
+use native.Mathlib.Omega.{arith}
+use lib.Dec.{leb}
+use Rattle.lists.specs.Choice.{all_below}
+use Rattle.lists.specs.Below.{all_more}
+use Rattle.record.specs.Atlas.{span_first, span_last, spans_ok}
+use Rattle.record.proofs.atlas.spans_ok.Goals as goal
+
+pub returns : goal.returns
+unfolding spans_ok
+returns c =
+    let l = c in
+    let e : l.loop-k.k ≡ l.args.count = omega arith in
+    simp (l.loop-k.invariant.1, e)

@@ -1,0 +1,14 @@
+-- `text_start` meets its contract.
+-- Where pairs are missing the invariant: the lengths so far, summed.
+use mathlib.Core.Path.{◌≡◌}
+use Prim.Native.Nat.{◌*◌, ◌≤◌, ◌-◌}
+use native.Mathlib.Omega.{arith}
+use Rattle.record.specs.Atlas.{text_start}
+use Rattle.record.proofs.Running.{text_more}
+use Rattle.record.proofs.atlas.text_start.Given as goal
+
+abbrev pub invariant-loop-i : goal.invariant-loop-i
+invariant-loop-i l = (l.i ≤ l.k) × (l.sum ≤ 255 * l.i) × (l.sum ≡ text_start l.pairs l.i)
+
+abbrev pub decreases-loop-i : goal.decreases-loop-i
+decreases-loop-i l = l.k - l.i

@@ -1,0 +1,29 @@
+-- `texts_ok` meets its contract.
+-- The invariant: so far every text suits its kind, or `ok` is false; `at` is where the next text begins.
+use mathlib.Core.Path.{◌≡◌}
+use Prim.Native.Nat.{◌*◌, ◌≤◌, ◌-◌}
+use native.Mathlib.Omega.{arith}
+use borrow.Author.Rules.{rules}
+use lib.ListN.{drop}
+use Rattle.lists.specs.Choice.{all_below}
+use Rattle.lists.specs.Below.{all_more}
+use Rattle.record.proofs.Running.{text_more}
+use Rattle.record.specs.Atlas.{entry_kind, entry_length, text_start, text_ok, texts_ok}
+use Rattle.record.proofs.atlas.texts_ok.Goals as goal
+
+pub loop-k-init : goal.loop-k-init
+unfolding text_start
+loop-k-init c = search rules
+
+pub loop-k-preserved : goal.loop-k-preserved
+loop-k-preserved c =
+    let l = c in
+    let n = c.entry_length-n in
+    (search rules, search rules, rw text_more (omega arith), simp (all_more, l.loop-k.invariant.3, c.text_ok-ok.ensures, c.entry_kind.ensures, n.ensures.0, c.from.ensures.0, l.loop-k.invariant.2))
+
+pub returns : goal.returns
+unfolding texts_ok
+returns c =
+    let l = c in
+    let e : l.loop-k.k ≡ l.args.atlas = omega arith in
+    simp (l.loop-k.invariant.3, e)

@@ -1,0 +1,17 @@
+-- Question 7: `edge_kinds_ok` meets its contract.
+-- The invariant: so far every kind is at most 4, or `ok` is false.
+use mathlib.Core.Path.{◌≡◌}
+use Prim.Native.Nat.{◌≤◌, ◌-◌}
+use native.Mathlib.Omega.{arith}
+use lib.Dec.{leb}
+use Rattle.lists.specs.Choice.{all_below}
+use Rattle.lists.specs.Below.{all_more}
+use Rattle.record.specs.Blocks.{edge_kind_at, edge_kinds_ok}
+use Rattle.record.proofs.blocks.edge_kinds_ok.Goals as goal
+
+pub returns : goal.returns
+unfolding edge_kinds_ok
+returns c =
+    let l = c in
+    let e : l.loop-e.e ≡ l.args.edges = omega arith in
+    simp (l.loop-e.invariant.1, e)

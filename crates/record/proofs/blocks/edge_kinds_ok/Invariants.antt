@@ -1,0 +1,16 @@
+-- Question 7: `edge_kinds_ok` meets its contract.
+-- The invariant: so far every kind is at most 4, or `ok` is false.
+use mathlib.Core.Path.{◌≡◌}
+use Prim.Native.Nat.{◌≤◌, ◌-◌}
+use native.Mathlib.Omega.{arith}
+use lib.Dec.{leb}
+use Rattle.lists.specs.Choice.{all_below}
+use Rattle.lists.specs.Below.{all_more}
+use Rattle.record.specs.Blocks.{edge_kind_at, edge_kinds_ok}
+use Rattle.record.proofs.blocks.edge_kinds_ok.Given as goal
+
+abbrev pub invariant-loop-e : goal.invariant-loop-e
+invariant-loop-e l = (l.e ≤ l.edges) × (l.ok ≡ all_below (λ j. leb (edge_kind_at l.kinds j) 4) l.e)
+
+abbrev pub decreases-loop-e : goal.decreases-loop-e
+decreases-loop-e l = l.edges - l.e

@@ -1,0 +1,31 @@
+-- Question 6: `starts_differ` meets its contract.
+-- Starts that rise differ. For the others the invariant: every start so far is new.
+use mathlib.Core.Path.{◌≡◌, sym, ◌∙◌}
+use mathlib.Core.Bool.{true}
+use Prim.Native.Nat.{◌≤◌, ◌-◌}
+use native.Mathlib.Omega.{arith}
+use borrow.Author.Rules.{rules}
+use borrow.Author.Tests.{not-true, not-false}
+use Rattle.lists.specs.Choice.{all_below}
+use Rattle.lists.specs.Below.{all_goes_on, all_fails}
+use Rattle.record.specs.Blocks.{start_is_new, starts_differ}
+use Rattle.record.proofs.Rising.{rising_differ}
+use Rattle.record.proofs.blocks.starts_differ.Goals as goal
+
+pub returns-then-starts_rise : goal.returns-then-starts_rise
+returns-then-starts_rise c = sym (rising_differ _ _ (sym c.starts_rise.ensures ∙ c.if-starts_rise.true))
+
+pub returns-then-not-start_is_new : goal.returns-then-not-start_is_new
+unfolding starts_differ
+returns-then-not-start_is_new c =
+    let l = c in
+    let a = l.args in
+    let n = c.start_is_new in
+    sym (all_fails (start_is_new a.starts.now) a.blocks l.loop-k.k (search rules) (sym n.ensures ∙ c.if-not-start_is_new.true))
+
+pub returns : goal.returns
+unfolding starts_differ
+returns c =
+    let l = c in
+    let e : l.loop-k.k ≡ l.args.blocks = omega arith in
+    sym (rw e at l.loop-k.invariant.1)

@@ -1,0 +1,28 @@
+-- `plain_bodies_ok` meets its contract.
+-- The invariant: every body so far is right.
+use mathlib.Core.Path.{◌≡◌, sym, ap, ◌∙◌}
+use mathlib.Core.Bool.{true}
+use Prim.Native.Nat.{◌≤◌, ◌-◌}
+use native.Mathlib.Omega.{arith}
+use borrow.Author.Rules.{rules}
+use borrow.Author.Tests.{not-true, not-false}
+use Rattle.lists.specs.Choice.{all_below}
+use Rattle.lists.specs.Below.{all_goes_on, all_fails}
+use lib.ListN.{length, length-drop}
+use Rattle.record.specs.Body.{body_at, body_ok, bodies_ok}
+use Rattle.record.proofs.body.plain_bodies_ok.Goals as goal
+
+pub returns-then-not-plain_body_ok : goal.returns-then-not-plain_body_ok
+unfolding bodies_ok
+returns-then-not-plain_body_ok c =
+    let l = c in
+    let a = l.args in
+    let n = c.plain_body_ok in
+    sym (all_fails (λ j. body_ok (body_at a.bodies.now j)) a.instructions l.loop-i.i (search rules) (sym (n.ensures ∙ ap body_ok c.body_at.ensures) ∙ c.if-not-plain_body_ok.true))
+
+pub returns : goal.returns
+unfolding bodies_ok
+returns c =
+    let l = c in
+    let e : l.loop-i.i ≡ l.args.instructions = omega arith in
+    sym (rw e at l.loop-i.invariant.1)

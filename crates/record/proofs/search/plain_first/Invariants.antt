@@ -1,0 +1,13 @@
+-- `plain_first` meets its contract.
+-- The invariant: the first from here on is the first of all.
+use mathlib.Core.Path.{◌≡◌, sym, ◌∙◌}
+use Prim.Native.Nat.{◌≤◌, ◌-◌}
+use Rattle.record.specs.Search.{find_from}
+use Rattle.record.proofs.SearchLaws.{find_all, find_here, find_next, find_none}
+use Rattle.record.proofs.search.plain_first.Given as goal
+
+abbrev pub invariant-loop-k : goal.invariant-loop-k
+invariant-loop-k l = (l.k ≤ l.count) × (find_from l.numbers l.x l.k (l.count - l.k) ≡ find_from l.numbers l.x 0 l.count)
+
+abbrev pub decreases-loop-k : goal.decreases-loop-k
+decreases-loop-k l = l.count - l.k

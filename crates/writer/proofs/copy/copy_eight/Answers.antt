@@ -1,0 +1,9 @@
+-- `copy::copy_eight` meets its contract.
+-- The bytes read are those of the part.
+use native.Mathlib.Omega.{arith}
+use lib.ListN.{length-set}
+use Rattle.writer.proofs.CopyLaws.{eight}
+use Rattle.writer.proofs.copy.copy_eight.Goals as goal
+
+pub returns : goal.returns
+returns c = let a = c in eight a.args.s.now a.args.to a.args.from a.args.out.now a.requires.1
