@@ -1,0 +1,23 @@
+-- Edges read up to the first that is wanted: `read_edges` meets its contract.
+-- The invariant: none of the edges so far is wanted.
+use mathlib.Core.Path.{◌≡◌, sym, ◌∙◌}
+use mathlib.Core.Bool.{false}
+use Prim.Native.Nat.{◌+◌, ◌-◌, ◌≤◌}
+use Rattle.lists.specs.Choice.{any_below}
+use Rattle.lists.specs.Below.{any_goes_on}
+use Rattle.cfg.specs.Graph.{passes}
+use Rattle.cfg.proofs.Reading.{reads_none, reads_at}
+use borrow.Author.Rules.{rules}
+use Rattle.cfg.proofs.edges.read_edges.Goals as goal
+
+pub returns-then-is_wanted : goal.returns-then-is_wanted
+returns-then-is_wanted c =
+    let l = c in
+    let a = l.args in
+    reads_at (passes a.edges.now a.wanted) a.e a.n l.loop-m.m (search rules) l.loop-m.invariant.1 (sym c.is_wanted.ensures ∙ c.if-is_wanted.true)
+
+pub returns : goal.returns
+returns c =
+    let l = c in
+    let a = l.args in
+    reads_none (passes a.edges.now a.wanted) a.e a.n l.loop-m.m l.loop-m.invariant.0 c.loop-m-test.false l.loop-m.invariant.1

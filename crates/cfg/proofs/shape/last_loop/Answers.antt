@@ -1,0 +1,42 @@
+-- The last block that closes a loop, and how many edges the search read: `last_loop` meets its contract.
+-- The invariant: the blocks before j are left, and their edges end at `end`.
+use mathlib.Core.Path.{◌≡◌, refl, ◌∙◌}
+use mathlib.Core.List.{List}
+use Prim.Native.Nat.{ℕ, ◌+◌, ◌-◌, ◌*◌, ◌≤◌, ◌<◌}
+use native.Mathlib.Omega.{arith}
+use lib.ListN.{length}
+use Rattle.cfg.specs.Graph.{first_edge_in, edges_in}
+use Rattle.cfg.specs.Turn.{InTurn, edges_before}
+use Rattle.cfg.proofs.BlocksRead.{before_last}
+use Rattle.cfg.proofs.BackSearch.{Left, left_none, left_found, left_less}
+use borrow.Author.Rules.{rules}
+use Rattle.cfg.proofs.shape.last_loop.Goals as goal
+
+-- where the edges of the block before j begin and end
+ends : (blocks edges : List ℕ) (to j e end : ℕ) → InTurn blocks edges to → 0 < j → j ≤ to → e ≡ first_edge_in blocks (j - 1) → end ≡ edges_before blocks j
+    → (e ≡ edges_before blocks (j - 1)) × (end ≡ e + edges_in blocks (j - 1))
+ends blocks edges to j e end h p le f g = (f ∙ h.first (j - 1) (omega arith), omega (arith, f, g, h.first (j - 1) (omega arith), before_last blocks j p))
+
+pub returns-then-read : goal.returns-then-read
+returns-then-read c = let r = c in
+    let l = r in
+    let a = l.args in
+    let f = left_found a.blocks.now a.edges.now a.i.0 a.to.0 l.loop-j.j l.loop-j.looks l.loop-j.invariant.5 (search rules) {r = r.closes_loop-read.result} r.closes_loop-read.ensures.found r.closes_loop-read.ensures.looks.0 c.if-read.true in
+    record { found = f.0; looks = (f.1, search rules) }
+
+pub loop-j-preserved : goal.loop-j-preserved
+loop-j-preserved c =
+    let r = c in
+    let l = r in
+    let s = l in
+    let a = s.args in
+    let b = r.first_edge_in-e in
+    let e = ends a.blocks.now a.edges.now a.to.0 l.loop-j.j b.result l.loop-j.end s.requires (search rules) l.loop-j.invariant.0 b.ensures.0 l.loop-j.invariant.1 in
+    let n = left_less a.blocks.now a.edges.now a.i.0 a.to.0 l.loop-j.j l.loop-j.looks l.loop-j.invariant.5 (search rules) {r = r.closes_loop-read.result} r.closes_loop-read.ensures.found r.closes_loop-read.ensures.looks.0 c.if-read.false in
+    (search rules, e.0, omega (arith, e.1, l.loop-j.invariant.2, r.closes_loop-read.ensures.looks.1), l.loop-j.invariant.3, omega (arith, e.1, l.loop-j.invariant.4), n)
+
+pub returns : goal.returns
+returns c = let l = c in
+    let a = l.args in
+    let f = left_none a.blocks.now a.edges.now a.i.0 a.to.0 l.loop-j.j l.loop-j.looks l.loop-j.invariant.5 (search rules) in
+    record { found = f.0; looks = (f.1, search rules) }

@@ -1,0 +1,17 @@
+-- A text's bytes as pairs: `put_pairs` meets its contract.
+-- What is left from here is one byte and what is left behind it.
+use Prim.Native.Nat.{◌-◌}
+use native.Mathlib.Omega.{arith}
+use lib.ListN.{length}
+use Rattle.csv_rows.proofs.Going.{Going, going, go_length, go_turn, go_end}
+use Rattle.commands.proofs.Printing.{pairs_from, pairs_more, pairs_none, pairs_all, pairs_room}
+use Rattle.commands.proofs.printed.put_pairs.Goals as goal
+
+pub put_pair-p-requires : goal.put_pair-p-requires
+put_pair-p-requires c = pairs_room _ c.loop-i.invariant c.loop-i-test.true c.requires
+
+pub loop-i-preserved : goal.loop-i-preserved
+loop-i-preserved c = go_turn c.loop-i.invariant (pairs_more _ _ c.loop-i-test.true) c.put_pair-p.ensures
+
+pub returns : goal.returns
+returns c = rw pairs_all at (go_end c.loop-i.invariant (pairs_none _ _ c.loop-i-test.false))

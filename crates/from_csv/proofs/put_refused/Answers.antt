@@ -1,0 +1,7 @@
+-- `put_refused` meets its contract.
+-- By whether it is part 0.
+use Rattle.from_csv.proofs.Parts.{first_refused, later_refused}
+use Rattle.from_csv.proofs.put_refused.Goals as goal
+
+pub returns : goal.returns
+returns c = let told_ = later_refused c.args.p c.args.n _ c.if-p-eq0.false in record { end = told_.0; text = told_.1 }

@@ -1,0 +1,15 @@
+-- `alike::same_codes` meets its contract.
+-- The invariant: from index i on the numbers are the same exactly if all are.
+use mathlib.Core.Path.{◌≡◌, refl, sym, ◌∙◌}
+use Prim.Native.Nat.{◌-◌}
+use lib.ListN.{length, drop}
+use Rattle.x86.specs.Words.{same_word}
+use Rattle.codes.proofs.SpelledLaws.{same_further, same_no_more, same_all}
+use Rattle.operand.proofs.Texts.{other_lengths}
+use Rattle.operand.proofs.alike.same_codes.Given as goal
+
+abbrev pub invariant-loop-i : goal.invariant-loop-i
+invariant-loop-i l = same_word (drop l.i l.a) (drop l.i l.b) ≡ same_word l.a l.b
+
+abbrev pub decreases-loop-i : goal.decreases-loop-i
+decreases-loop-i l = length l.a - l.i

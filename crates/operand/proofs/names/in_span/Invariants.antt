@@ -1,0 +1,15 @@
+-- `names::in_span` meets its contract.
+-- Where spans are missing the invariant: no span so far holds the address.
+use mathlib.Core.Path.{◌≡◌, ◌∙◌}
+use mathlib.Core.Bool.{false}
+use Prim.Native.Nat.{◌≤◌, ◌-◌}
+use native.Mathlib.Omega.{arith}
+use Rattle.lists.specs.Choice.{any_below}
+use Rattle.operand.proofs.Entries.{part_is, holds, inside, outside, of_record_lem, nowhere}
+use Rattle.operand.proofs.names.in_span.Given as goal
+
+abbrev pub invariant-loop-k : goal.invariant-loop-k
+invariant-loop-k l = (l.k ≤ l.n) × (any_below (holds l.spans l.va) l.k ≡ false)
+
+abbrev pub decreases-loop-k : goal.decreases-loop-k
+decreases-loop-k l = l.n - l.k

@@ -1,0 +1,14 @@
+-- `names::plain_span` meets its contract.
+-- The invariant: no span so far holds the address.
+use mathlib.Core.Path.{◌≡◌, sym, ap, ◌∙◌}
+use mathlib.Core.Bool.{false}
+use Prim.Native.Nat.{◌≤◌, ◌-◌}
+use native.Mathlib.Omega.{arith}
+use Rattle.lists.specs.Choice.{any_below}
+use Rattle.operand.proofs.Entries.{holds, inside, outside}
+use Rattle.operand.proofs.names.plain_span.Goals as goal
+
+pub returns-then-plain_u64-va : goal.returns-then-plain_u64-va
+returns-then-plain_u64-va c =
+    let a = c.args in
+    inside a.spans.now a.va _ _ _ c.plain_u64.ensures.0 c.plain_u64-in-loop-k.ensures.0 a.n (omega arith) c.if-plain_u64-va.true

@@ -1,0 +1,25 @@
+-- `routine::put_array` meets its contract.
+-- The invariant: to store the entries that are left where the loop stands is to store all of them where it began.
+use mathlib.Core.Path.{◌≡◌, refl, sym, ap, ◌∙◌}
+use mathlib.Core.List.{List, [], ◌++◌}
+use Prim.Native.Nat.{ℕ, ◌+◌, ◌*◌, ◌-◌, ◌≤◌, ◌<◌}
+use native.Mathlib.Numerals.{add-one}
+use native.Mathlib.Omega.{arith}
+use lib.ListN.{length, get_or, drop, drop_of_length-le, length-append}
+use lib.Seq.{drop-cons}
+use Rattle.lists.specs.Put.{put}
+use Rattle.lists.specs.PutLaws.{put_length, put_none, put_append}
+use Rattle.routines.specs.declared.ending.Ending.{Ending}
+use Rattle.routines.specs.declared.ending.Ending.TheVariants.{Ret}
+use Rattle.routines.specs.Numbered.{routine_at}
+use Rattle.routines.specs.Written.{each, entry_of}
+use Rattle.routines.proofs.Sizes.{length_entry}
+use Rattle.routines.proofs.routine.put_array.Given as goal
+
+abbrev pub invariant-loop-j : goal.invariant-loop-j
+invariant-loop-j l =
+    (l.j ≤ l.n) × (length l.out ≡ length l.initial.out) × (l.next ≤ l.at + 92 * l.j) × (l.next + length (left l.a (routine_at l.k) l.j) ≡ l.at + length (left l.a (routine_at l.k) 0))
+    × (put l.next (left l.a (routine_at l.k) l.j) l.out ≡ put l.at (left l.a (routine_at l.k) 0) l.initial.out)
+
+abbrev pub decreases-loop-j : goal.decreases-loop-j
+decreases-loop-j l = l.n - l.j

@@ -1,0 +1,58 @@
+-- `routine::routine` meets its contract.
+-- By the first question that gets a no; the bytes that are left at the start of the list are the routine's record, which is accepted.
+use mathlib.Core.Path.{◌≡◌, refl}
+use mathlib.Core.List.{List}
+use Prim.Native.Nat.{ℕ, suc, ◌+◌, ◌≤◌, ◌<◌}
+use native.Mathlib.Omega.{arith}
+use borrow.Author.Tests.{lt-ltb, le-ltb, le-leb, lt-leb}
+use lib.ListN.{length, take, drop}
+use lib.Seq.{take_at}
+use Rattle.lists.specs.Put.{put}
+use Rattle.lists.specs.PutLaws.{put_fits}
+use Rattle.lists.specs.declared.stored.Stored.TheVariants.{Bytes, No}
+use Rattle.routines.specs.Called.{made, routine_no, Makes}
+use Rattle.routines.proofs.Full.{full}
+use Rattle.routines.proofs.Accepted.{accepted, short}
+use Rattle.routines.proofs.routine.routine.Goals as goal
+
+module _ (k : ℕ) (out : List ℕ) where
+  refused : (n : ℕ) → routine_no k (length out) ≡ suc n → Makes k out out (No (suc n))
+  refused n e = record {
+    answer = rw e;
+    list = rw e;
+    all = full;
+    accepted = λ z. absurd (omega arith);
+    short = short k;
+  }
+
+  no_number : 276 ≤ k → Makes k out out (No 18)
+  unfolding routine_no
+  no_number h = refused 17 (rw (le-ltb k 276 h))
+
+  no_room : k < 276 → length out < length (made k) → Makes k out out (No 12)
+  unfolding routine_no
+  no_room h l = refused 11 (rw (lt-ltb k 276 h, lt-leb (length (made k)) (length out) l))
+
+  made_at : (n : ℕ) (out' : List ℕ) → k < 276 → n ≡ length (made k) → n ≤ length out → out' ≡ put 0 (made k) out → Makes k out out' (Bytes n)
+  unfolding routine_no
+  made_at n out' h e l p =
+      let yes : routine_no k (length out) ≡ 0 = rw (lt-ltb k 276 h, le-leb (length (made k)) (length out) (omega arith)) in
+      let whole : take (length (made k)) out' ≡ made k =
+      rw (p, put_fits 0 (made k) out (omega arith)) (take_at (made k) (drop (0 + length (made k)) out) (length (made k)) refl)
+      in
+      record {
+        answer = rw (yes, e);
+        list = rw (yes, p);
+        all = full;
+        accepted = λ z. rw whole (accepted k);
+        short = short k;
+      }
+
+pub returns-then-k-ge276 : goal.returns-then-k-ge276
+returns-then-k-ge276 c = no_number _ _ c.if-k-ge276.true
+
+pub returns-then-out-size : goal.returns-then-out-size
+returns-then-out-size c = no_room _ _ (omega arith) (omega arith)
+
+pub returns : goal.returns
+returns c = made_at _ _ _ _ (omega arith) c.size_of-size.ensures.0 (omega arith) c.put_record.ensures
