@@ -12,12 +12,10 @@ use Rattle.cfg.proofs.edges.read_edges.Goals as goal
 
 pub returns-then-is_wanted : goal.returns-then-is_wanted
 returns-then-is_wanted c =
-    let l = c in
-    let a = l.args in
-    reads_at (passes a.edges.now a.wanted) a.e a.n l.loop-m.m (search rules) l.loop-m.invariant.1 (sym c.is_wanted.ensures ∙ c.if-is_wanted.true)
+    let a = c.args in
+    reads_at (passes a.edges.now a.wanted) a.e a.n c.loop-m.m (search rules) c.loop-m.invariant.1 (sym c.is_wanted.ensures ∙ c.if-is_wanted.true)
 
 pub returns : goal.returns
 returns c =
-    let l = c in
-    let a = l.args in
-    reads_none (passes a.edges.now a.wanted) a.e a.n l.loop-m.m l.loop-m.invariant.0 c.loop-m-test.false l.loop-m.invariant.1
+    let a = c.args in
+    reads_none (passes a.edges.now a.wanted) a.e a.n c.loop-m.m c.loop-m.invariant.0 c.loop-m-test.false c.loop-m.invariant.1

@@ -22,14 +22,12 @@ as_read t first excepted u p q e a b = simp (a, b, e)
 
 pub returns-then-is_below-same_address : goal.returns-then-is_below-same_address
 returns-then-is_below-same_address c =
-    let l = c in
-    let a = l.args in
+    let a = c.args in
     let t = c.plain_u64 in
-    reads_at (leads a.targets.now a.first.0 a.excepted.0) a.e a.n l.loop-k.k (search rules) l.loop-k.invariant.1
+    reads_at (leads a.targets.now a.first.0 a.excepted.0) a.e a.n c.loop-k.k (search rules) c.loop-k.invariant.1
     (as_read c.plain_u64.result a.first.0 a.excepted.0 _ _ _ c.plain_u64.ensures.0 c.is_below.ensures c.same_address.ensures ∙ c.if-is_below-same_address.true)
 
 pub returns : goal.returns
 returns c =
-    let l = c in
-    let a = l.args in
-    reads_none (leads a.targets.now a.first.0 a.excepted.0) a.e a.n l.loop-k.k l.loop-k.invariant.0 c.loop-k-test.false l.loop-k.invariant.1
+    let a = c.args in
+    reads_none (leads a.targets.now a.first.0 a.excepted.0) a.e a.n c.loop-k.k c.loop-k.invariant.0 c.loop-k-test.false c.loop-k.invariant.1

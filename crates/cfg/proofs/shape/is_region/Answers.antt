@@ -29,6 +29,5 @@ module _ (blocks edges starts targets : List ℕ) (B from t : ℕ) where
     goes_on g y h p q = let z : single ≡ true = sym e ∙ ap not h in rw z (ap not p, omega arith)
 
 pub region_escapes-escape-requires : goal.region_escapes-escape-requires
-region_escapes-escape-requires c = let s = c in
-    let a = s.args in
-    record { turns = λ k h. s.requires.in_turn.first k (search rules); from_le_to = (s.requires.from_le_t.0, omega (arith, s.requires.from_le_t, before_le a.blocks.now a.t.0 a.count s.requires.from_le_t.1)) }
+region_escapes-escape-requires c = let a = c.args in
+    record { turns = λ k h. c.requires.in_turn.first k (search rules); from_le_to = (c.requires.from_le_t.0, omega (arith, c.requires.from_le_t, before_le a.blocks.now a.t.0 a.count c.requires.from_le_t.1)) }

@@ -18,25 +18,19 @@ ends : (blocks edges : List ℕ) (to j e end : ℕ) → InTurn blocks edges to �
 ends blocks edges to j e end h p le f g = (f ∙ h.first (j - 1) (omega arith), omega (arith, f, g, h.first (j - 1) (omega arith), before_last blocks j p))
 
 pub returns-then-read : goal.returns-then-read
-returns-then-read c = let r = c in
-    let l = r in
-    let a = l.args in
-    let f = left_found a.blocks.now a.edges.now a.i.0 a.to.0 l.loop-j.j l.loop-j.looks l.loop-j.invariant.5 (search rules) {r = r.closes_loop-read.result} r.closes_loop-read.ensures.found r.closes_loop-read.ensures.looks.0 c.if-read.true in
+returns-then-read c = let a = c.args in
+    let f = left_found a.blocks.now a.edges.now a.i.0 a.to.0 c.loop-j.j c.loop-j.looks c.loop-j.invariant.5 (search rules) {c = c.closes_loop-read.result} c.closes_loop-read.ensures.found c.closes_loop-read.ensures.looks.0 c.if-read.true in
     record { found = f.0; looks = (f.1, search rules) }
 
 pub loop-j-preserved : goal.loop-j-preserved
 loop-j-preserved c =
-    let r = c in
-    let l = r in
-    let s = l in
-    let a = s.args in
-    let b = r.first_edge_in-e in
-    let e = ends a.blocks.now a.edges.now a.to.0 l.loop-j.j b.result l.loop-j.end s.requires (search rules) l.loop-j.invariant.0 b.ensures.0 l.loop-j.invariant.1 in
-    let n = left_less a.blocks.now a.edges.now a.i.0 a.to.0 l.loop-j.j l.loop-j.looks l.loop-j.invariant.5 (search rules) {r = r.closes_loop-read.result} r.closes_loop-read.ensures.found r.closes_loop-read.ensures.looks.0 c.if-read.false in
-    (search rules, e.0, omega (arith, e.1, l.loop-j.invariant.2, r.closes_loop-read.ensures.looks.1), l.loop-j.invariant.3, omega (arith, e.1, l.loop-j.invariant.4), n)
+    let a = c.args in
+    let b = c.first_edge_in-e in
+    let e = ends a.blocks.now a.edges.now a.to.0 c.loop-j.j b.result c.loop-j.end c.requires (search rules) c.loop-j.invariant.0 b.ensures.0 c.loop-j.invariant.1 in
+    let n = left_less a.blocks.now a.edges.now a.i.0 a.to.0 c.loop-j.j c.loop-j.looks c.loop-j.invariant.5 (search rules) {c = c.closes_loop-read.result} c.closes_loop-read.ensures.found c.closes_loop-read.ensures.looks.0 c.if-read.false in
+    (search rules, e.0, omega (arith, e.1, c.loop-j.invariant.2, c.closes_loop-read.ensures.looks.1), c.loop-j.invariant.3, omega (arith, e.1, c.loop-j.invariant.4), n)
 
 pub returns : goal.returns
-returns c = let l = c in
-    let a = l.args in
-    let f = left_none a.blocks.now a.edges.now a.i.0 a.to.0 l.loop-j.j l.loop-j.looks l.loop-j.invariant.5 (search rules) in
+returns c = let a = c.args in
+    let f = left_none a.blocks.now a.edges.now a.i.0 a.to.0 c.loop-j.j c.loop-j.looks c.loop-j.invariant.5 (search rules) in
     record { found = f.0; looks = (f.1, search rules) }

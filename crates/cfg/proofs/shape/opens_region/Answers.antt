@@ -32,33 +32,25 @@ module _ (blocks edges starts targets : List ℕ) (B i to : ℕ) where
     opened e f l p q = let h = rw b at e in rw h (rw b at p, rw b at q)
 
 pub returns-then-t-to : goal.returns-then-t-to
-returns-then-t-to c = let q = c in
-    let p = q in
-    let e = p in
-    let s = e in
-    let a = s.args in
-    let r = opened a.blocks.now a.edges.now a.starts.now a.targets.now a.count a.i.0 a.to.0 e.branch_to-t.result.0 e.branch_to-t.ensures
-    (simp (sym e.ending_in.ensures, eq-eqb _ _ p.if-ending_in-eq2.true, lt-ltb _ _ p.if-i-t.true, le-leb _ _ q.if-t-to.true)) _ _ c.is_region.ensures.found c.is_region.ensures.looks.0 in
+returns-then-t-to c = let a = c.args in
+    let r = opened a.blocks.now a.edges.now a.starts.now a.targets.now a.count a.i.0 a.to.0 c.branch_to-t.result.0 c.branch_to-t.ensures
+    (simp (sym c.ending_in.ensures, eq-eqb _ _ c.if-ending_in-eq2.true, lt-ltb _ _ c.if-i-t.true, le-leb _ _ c.if-t-to.true)) _ _ c.is_region.ensures.found c.is_region.ensures.looks.0 in
     record { found = r.0; looks = (r.1, search rules) }
 
 pub returns-else-t-to : goal.returns-else-t-to
-returns-else-t-to c = let p = c in
-    let e = p in
-    let a = e.args in
-    let r = shut a.blocks.now a.edges.now a.starts.now a.targets.now a.count a.i.0 a.to.0 e.branch_to-t.result.0 e.branch_to-t.ensures
-    (simp (sym e.ending_in.ensures, eq-eqb _ _ p.if-ending_in-eq2.true, lt-ltb _ _ p.if-i-t.true, lt-leb _ _ c.if-t-to.false)) in
+returns-else-t-to c = let a = c.args in
+    let r = shut a.blocks.now a.edges.now a.starts.now a.targets.now a.count a.i.0 a.to.0 c.branch_to-t.result.0 c.branch_to-t.ensures
+    (simp (sym c.ending_in.ensures, eq-eqb _ _ c.if-ending_in-eq2.true, lt-ltb _ _ c.if-i-t.true, lt-leb _ _ c.if-t-to.false)) in
     record { found = r.0; looks = (r.1, search rules) }
 
 pub returns-else-i-t : goal.returns-else-i-t
-returns-else-i-t c = let e = c in
-    let a = e.args in
-    let r = shut a.blocks.now a.edges.now a.starts.now a.targets.now a.count a.i.0 a.to.0 e.branch_to-t.result.0 e.branch_to-t.ensures
-    (simp (sym e.ending_in.ensures, eq-eqb _ _ c.if-ending_in-eq2.true, le-ltb _ _ c.if-i-t.false)) in
+returns-else-i-t c = let a = c.args in
+    let r = shut a.blocks.now a.edges.now a.starts.now a.targets.now a.count a.i.0 a.to.0 c.branch_to-t.result.0 c.branch_to-t.ensures
+    (simp (sym c.ending_in.ensures, eq-eqb _ _ c.if-ending_in-eq2.true, le-ltb _ _ c.if-i-t.false)) in
     record { found = r.0; looks = (r.1, search rules) }
 
 pub returns-else-ending_in-eq2 : goal.returns-else-ending_in-eq2
-returns-else-ending_in-eq2 c = let e = c in
-    let a = e.args in
-    let r = shut a.blocks.now a.edges.now a.starts.now a.targets.now a.count a.i.0 a.to.0 e.branch_to-t.result.0 e.branch_to-t.ensures
-    (simp (sym e.ending_in.ensures, ne_eqb _ _ c.if-ending_in-eq2.false)) in
+returns-else-ending_in-eq2 c = let a = c.args in
+    let r = shut a.blocks.now a.edges.now a.starts.now a.targets.now a.count a.i.0 a.to.0 c.branch_to-t.result.0 c.branch_to-t.ensures
+    (simp (sym c.ending_in.ensures, ne_eqb _ _ c.if-ending_in-eq2.false)) in
     record { found = r.0; looks = (r.1, search rules) }

@@ -9,42 +9,28 @@ use Rattle.cfg.proofs.shape.shape_at.Goals as goal
 
 pub last_loop-sought-requires : goal.last_loop-sought-requires
 last_loop-sought-requires c =
-    let s = c in
-    let a = s.args in
-    turn_less a.blocks.now a.edges.now a.count a.to.0 s.requires.in_turn s.requires.i_lt_to.1
+    let a = c.args in
+    turn_less a.blocks.now a.edges.now a.count a.to.0 c.requires.in_turn c.requires.i_lt_to.1
 
 pub is_loop-test-requires : goal.is_loop-test-requires
-is_loop-test-requires c = let f = c in
-    let l = c in
-    let s = l in
-    let a = s.args in
-    record { in_turn = s.requires.in_turn; j_lt_count = omega (arith, s.requires.i_lt_to, loop_before a.blocks.now a.edges.now a.i.0 a.to.0 c.in-AtPlace.j (sym l.last_loop-sought.ensures.found ∙ c.in-AtPlace.is)) }
+is_loop-test-requires c = let a = c.args in
+    record { in_turn = c.requires.in_turn; j_lt_count = omega (arith, c.requires.i_lt_to, loop_before a.blocks.now a.edges.now a.i.0 a.to.0 c.in-AtPlace.j (sym c.last_loop-sought.ensures.found ∙ c.in-AtPlace.is)) }
 
 pub returns-then-test : goal.returns-then-test
-returns-then-test c = let t = c in
-    let f = t in
-    let l = t in
-    let s = l in
-    let a = s.args in
-    let told_ = stands_loop a.blocks.now a.edges.now a.starts.now a.targets.now a.count a.i.0 a.to.0 s.requires.i_lt_to.0 s.requires.i_lt_to.1
-    l.last_loop-sought.result.place l.last_loop-sought.result.looks l.last_loop-sought.ensures.found l.last_loop-sought.ensures.looks.0
-    c.in-AtPlace.j c.in-AtPlace.is t.is_loop-test.ensures.found t.is_loop-test.ensures.looks.0 c.if-test.true in record { shape = told_.0; looks = told_.1 }
+returns-then-test c = let a = c.args in
+    let told_ = stands_loop a.blocks.now a.edges.now a.starts.now a.targets.now a.count a.i.0 a.to.0 c.requires.i_lt_to.0 c.requires.i_lt_to.1
+    c.last_loop-sought.result.place c.last_loop-sought.result.looks c.last_loop-sought.ensures.found c.last_loop-sought.ensures.looks.0
+    c.in-AtPlace.j c.in-AtPlace.is c.is_loop-test.ensures.found c.is_loop-test.ensures.looks.0 c.if-test.true in record { shape = told_.0; looks = told_.1 }
 
 pub returns-else-test : goal.returns-else-test
-returns-else-test c = let t = c in
-    let f = t in
-    let l = t in
-    let s = l in
-    let a = s.args in
-    let told_ = stands_no_loop a.blocks.now a.edges.now a.starts.now a.targets.now a.count a.i.0 a.to.0 s.requires.i_lt_to.0 s.requires.i_lt_to.1
-    l.last_loop-sought.result.place l.last_loop-sought.result.looks l.last_loop-sought.ensures.found l.last_loop-sought.ensures.looks.0
-    c.in-AtPlace.j c.in-AtPlace.is t.is_loop-test.ensures.found t.is_loop-test.ensures.looks.0 c.if-test.false
+returns-else-test c = let a = c.args in
+    let told_ = stands_no_loop a.blocks.now a.edges.now a.starts.now a.targets.now a.count a.i.0 a.to.0 c.requires.i_lt_to.0 c.requires.i_lt_to.1
+    c.last_loop-sought.result.place c.last_loop-sought.result.looks c.last_loop-sought.ensures.found c.last_loop-sought.ensures.looks.0
+    c.in-AtPlace.j c.in-AtPlace.is c.is_loop-test.ensures.found c.is_loop-test.ensures.looks.0 c.if-test.false
     c.region_at.result.shape c.region_at.result.looks c.region_at.ensures.shape c.region_at.ensures.looks in record { shape = told_.0; looks = told_.1 }
 
 pub returns-in-NoPlace : goal.returns-in-NoPlace
-returns-in-NoPlace c = let l = c in
-    let s = l in
-    let a = s.args in
-    let told_ = stands_alone a.blocks.now a.edges.now a.starts.now a.targets.now a.count a.i.0 a.to.0 s.requires.i_lt_to.0 s.requires.i_lt_to.1
-    l.last_loop-sought.result.place l.last_loop-sought.result.looks l.last_loop-sought.ensures.found l.last_loop-sought.ensures.looks.0
+returns-in-NoPlace c = let a = c.args in
+    let told_ = stands_alone a.blocks.now a.edges.now a.starts.now a.targets.now a.count a.i.0 a.to.0 c.requires.i_lt_to.0 c.requires.i_lt_to.1
+    c.last_loop-sought.result.place c.last_loop-sought.result.looks c.last_loop-sought.ensures.found c.last_loop-sought.ensures.looks.0
     c.in-NoPlace.is c.region_at-in-NoPlace.result.shape c.region_at-in-NoPlace.result.looks c.region_at-in-NoPlace.ensures.shape c.region_at-in-NoPlace.ensures.looks in record { shape = told_.0; looks = told_.1 }

@@ -19,15 +19,11 @@ closes blocks edges i j h f g b t =
     (ap (λ (q : Bool). q && has_condition blocks j) (sym t ∙ ap (λ (l : Looked). l.found) e), ap (λ (l : Looked). l.looks) e)
 
 pub returns-then-read : goal.returns-then-read
-returns-then-read c = let t = c in
-    let s = t in
-    let a = s.args in
-    let f = closes a.blocks.now a.edges.now a.i.0 a.j.0 t.read_edges-read.ensures s.requires.0 s.requires.1 true c.if-read.true in
-    record { found = c.has_condition.ensures ∙ f.0; looks = (f.1, t.read_edges-read.ensures.few) }
+returns-then-read c = let a = c.args in
+    let f = closes a.blocks.now a.edges.now a.i.0 a.j.0 c.read_edges-read.ensures c.requires.0 c.requires.1 true c.if-read.true in
+    record { found = c.has_condition.ensures ∙ f.0; looks = (f.1, c.read_edges-read.ensures.few) }
 
 pub returns : goal.returns
-returns c = let t = c in
-    let s = t in
-    let a = s.args in
-    let f = closes a.blocks.now a.edges.now a.i.0 a.j.0 t.read_edges-read.ensures s.requires.0 s.requires.1 false c.if-read.false in
-    record { found = c.if-read.false ∙ f.0; looks = (f.1, t.read_edges-read.ensures.few) }
+returns c = let a = c.args in
+    let f = closes a.blocks.now a.edges.now a.i.0 a.j.0 c.read_edges-read.ensures c.requires.0 c.requires.1 false c.if-read.false in
+    record { found = c.if-read.false ∙ f.0; looks = (f.1, c.read_edges-read.ensures.few) }

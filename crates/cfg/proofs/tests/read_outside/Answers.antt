@@ -10,31 +10,22 @@ use Rattle.cfg.proofs.tests.read_outside.Goals as goal
 
 pub read_edges-before-requires : goal.read_edges-before-requires
 read_edges-before-requires c =
-    let s = c in
-    omega (arith, c.edges_before.ensures.0, s.requires.in_turn.all, s.requires.from_le_to, before_le s.args.blocks.now s.args.from.0 s.args.count (search rules))
+    omega (arith, c.edges_before.ensures.0, c.requires.in_turn.all, c.requires.from_le_to, before_le c.args.blocks.now c.args.from.0 c.args.count (search rules))
 
 pub returns-then-before : goal.returns-then-before
-returns-then-before c = let t = c in
-    let s = t in
-    let a = s.args in
-    let e = outside_first a.blocks.now (passes a.edges.now a.wanted) a.count a.from.0 a.to.0 s.requires.in_turn.first s.requires.from_le_to.0 s.requires.from_le_to.1 t.read_edges-before.ensures t.edges_before.ensures.0 c.if-before.true in
+returns-then-before c = let a = c.args in
+    let e = outside_first a.blocks.now (passes a.edges.now a.wanted) a.count a.from.0 a.to.0 c.requires.in_turn.first c.requires.from_le_to.0 c.requires.from_le_to.1 c.read_edges-before.ensures c.edges_before.ensures.0 c.if-before.true in
     record { found = ap (λ (l : Looked). l.found) e; looks = (ap (λ (l : Looked). l.looks) e, search rules) }
 
 pub overflow_sub-edges_before : goal.overflow_sub-edges_before
 overflow_sub-edges_before c =
-    let s = c in
-    omega (arith, c.edges_before-2.ensures.0, c.edges_before-e.ensures.0, before_le s.args.blocks.now s.args.to.0 s.args.count (search rules))
+    omega (arith, c.edges_before-2.ensures.0, c.edges_before-e.ensures.0, before_le c.args.blocks.now c.args.to.0 c.args.count (search rules))
 
 pub read_edges-behind-requires : goal.read_edges-behind-requires
 read_edges-behind-requires c =
-    let s = c in
-    omega (arith, c.edges_before-2.ensures.0, c.edges_before-e.ensures.0, s.requires.in_turn.all, before_le s.args.blocks.now s.args.to.0 s.args.count (search rules))
+    omega (arith, c.edges_before-2.ensures.0, c.edges_before-e.ensures.0, c.requires.in_turn.all, before_le c.args.blocks.now c.args.to.0 c.args.count (search rules))
 
 pub returns : goal.returns
-returns c = let v = c in
-    let u = v in
-    let t = u in
-    let s = t in
-    let a = s.args in
-    let e = outside_both a.blocks.now (passes a.edges.now a.wanted) a.count a.from.0 a.to.0 s.requires.in_turn.first s.requires.from_le_to.0 s.requires.from_le_to.1 t.read_edges-before.ensures t.edges_before.ensures.0 u.if-before.false v.read_edges-behind.ensures u.edges_before-e.ensures.0 u.edges_before-2.ensures.0 refl in
-    record { found = ap (λ (l : Looked). l.found) e; looks = (ap (λ (l : Looked). l.looks) e, omega (arith, t.read_edges-before.ensures.few, v.read_edges-behind.ensures.few, t.edges_before.ensures.0, u.edges_before-e.ensures, u.edges_before-2.ensures.1, before_le a.blocks.now a.from.0 a.to.0 s.requires.from_le_to.0)) }
+returns c = let a = c.args in
+    let e = outside_both a.blocks.now (passes a.edges.now a.wanted) a.count a.from.0 a.to.0 c.requires.in_turn.first c.requires.from_le_to.0 c.requires.from_le_to.1 c.read_edges-before.ensures c.edges_before.ensures.0 c.if-before.false c.read_edges-behind.ensures c.edges_before-e.ensures.0 c.edges_before-2.ensures.0 refl in
+    record { found = ap (λ (l : Looked). l.found) e; looks = (ap (λ (l : Looked). l.looks) e, omega (arith, c.read_edges-before.ensures.few, c.read_edges-behind.ensures.few, c.edges_before.ensures.0, c.edges_before-e.ensures, c.edges_before-2.ensures.1, before_le a.blocks.now a.from.0 a.to.0 c.requires.from_le_to.0)) }

@@ -21,21 +21,16 @@ lent starts targets from to f x p q h = rw (p, q) at h
 
 pub overflow_sub-edges_before : goal.overflow_sub-edges_before
 overflow_sub-edges_before c =
-    let s = c in
-    omega (arith, c.edges_before.ensures.0, c.edges_before-e.ensures.0, before_le s.args.blocks.now s.args.from.0 s.args.to.0 s.requires.from_le_to.0)
+    omega (arith, c.edges_before.ensures.0, c.edges_before-e.ensures.0, before_le c.args.blocks.now c.args.from.0 c.args.to.0 c.requires.from_le_to.0)
 
 pub read_targets-requires : goal.read_targets-requires
 read_targets-requires c =
-    let s = c in
-    omega (arith, c.edges_before.ensures.0, c.edges_before-e.ensures.0, s.requires.from_le_to.1, before_le s.args.blocks.now s.args.from.0 s.args.to.0 s.requires.from_le_to.0)
+    omega (arith, c.edges_before.ensures.0, c.edges_before-e.ensures.0, c.requires.from_le_to.1, before_le c.args.blocks.now c.args.from.0 c.args.to.0 c.requires.from_le_to.0)
 
 pub returns : goal.returns
 unfolding escapes escape_looks
-returns c = let v = c in
-    let u = v in
-    let s = u in
-    let a = s.args in
+returns c = let a = c.args in
     let l = c.read_targets.ensures in
-    let r = lent a.starts.now a.targets.now a.from.0 a.to.0 _ _ u.start_at-first.ensures u.start_at-excepted.ensures l in
-    let e = region_reads a.blocks.now (leaves a.starts.now a.targets.now a.from.0 a.to.0) a.to.0 a.from.0 a.to.0 s.requires.turns s.requires.from_le_to.0 (omega arith) r u.edges_before-e.ensures.0 (ap (λ (x : ℕ). x - u.edges_before-e.result) v.edges_before.ensures.0) in
-    record { found = ap (λ (q : Looked). q.found) e; looks = (ap (λ (q : Looked). q.looks) e, omega (arith, l.few, v.edges_before.ensures.1)) }
+    let r = lent a.starts.now a.targets.now a.from.0 a.to.0 _ _ c.start_at-first.ensures c.start_at-excepted.ensures l in
+    let e = region_reads a.blocks.now (leaves a.starts.now a.targets.now a.from.0 a.to.0) a.to.0 a.from.0 a.to.0 c.requires.turns c.requires.from_le_to.0 (omega arith) r c.edges_before-e.ensures.0 (ap (λ (x : ℕ). x - c.edges_before-e.result) c.edges_before.ensures.0) in
+    record { found = ap (λ (q : Looked). q.found) e; looks = (ap (λ (q : Looked). q.looks) e, omega (arith, l.few, c.edges_before.ensures.1)) }

@@ -9,17 +9,14 @@ use Rattle.std.proofs.Common.{sym, ap, arith, rules}
 use Rattle.codes.proofs.code.code_mnemonic.Goals as goal
 
 pub code_text-requires : goal.code_text-requires
-code_text-requires c = let b = c in
-    record { in_bounds = b.requires.in_bounds; k_bound = omega arith; at_in_bounds = omega (arith, bytes b.args.tables.now b.requires.tables_value); at_value = mnemonic_size b.args.tables.now b.requires.tables_value b.args.m c.if-m-lt46.true }
+code_text-requires c = record { in_bounds = c.requires.in_bounds; k_bound = omega arith; at_in_bounds = omega (arith, bytes c.args.tables.now c.requires.tables_value); at_value = mnemonic_size c.args.tables.now c.requires.tables_value c.args.m c.if-m-lt46.true }
 
 pub returns-then-m-lt46 : goal.returns-then-m-lt46
 returns-then-m-lt46 c s =
-    let b = c in
-    as_token _ (token 0 (mnemonic_name b.args.m)) (ap (token 0) (mnemonic_is b.args.tables.now b.requires.tables_value b.args.m c.if-m-lt46.true))
+    as_token _ (token 0 (mnemonic_name c.args.m)) (ap (token 0) (mnemonic_is c.args.tables.now c.requires.tables_value c.args.m c.if-m-lt46.true))
     (c.code_text.ensures s)
 
 pub returns : goal.returns
 returns c s =
-    let b = c in
-    as_token _ (token 0 (mnemonic_name b.args.m)) (ap (token 0) (sym (no_mnemonic b.args.m c.if-m-lt46.false)))
-    (none_coded b.args.tables.now s b.args.codes.now _ 0 (omega arith) c.put_code.ensures)
+    as_token _ (token 0 (mnemonic_name c.args.m)) (ap (token 0) (sym (no_mnemonic c.args.m c.if-m-lt46.false)))
+    (none_coded c.args.tables.now s c.args.codes.now _ 0 (omega arith) c.put_code.ensures)

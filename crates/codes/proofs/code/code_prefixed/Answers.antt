@@ -7,17 +7,16 @@ use Rattle.codes.proofs.code.code_prefixed.Goals as goal
 
 pub bounds-tables-at : goal.bounds-tables-at
 bounds-tables-at c =
-    let b = c in omega (arith, bytes b.args.tables.now b.requires.tables_value)
+    omega (arith, bytes c.args.tables.now c.requires.tables_value)
 
 pub bounds-tables-at-2 : goal.bounds-tables-at-2
 bounds-tables-at-2 c =
-    let b = c in omega (arith, bytes b.args.tables.now b.requires.tables_value)
+    omega (arith, bytes c.args.tables.now c.requires.tables_value)
 
 pub put_valued-requires : goal.put_valued-requires
-put_valued-requires c = let b = c in record { in_bounds = b.requires.in_bounds; k_bound = (word_kind b.args.tables.now b.requires.tables_value b.args.w b.requires.w_bound, omega arith) }
+put_valued-requires c = record { in_bounds = c.requires.in_bounds; k_bound = (word_kind c.args.tables.now c.requires.tables_value c.args.w c.requires.w_bound, omega arith) }
 
 pub returns : goal.returns
 returns c s =
-    let b = c in
-    prefixed_word b.args.tables.now s b.args.codes.now _ b.args.w b.args.v _ _ _ b.requires.tables_value b.requires.w_bound refl refl
+    prefixed_word c.args.tables.now s c.args.codes.now _ c.args.w c.args.v _ _ _ c.requires.tables_value c.requires.w_bound refl refl
     (c.hex_count.ensures.0 true) c.put_valued.ensures

@@ -9,17 +9,14 @@ use Rattle.std.proofs.Common.{sym, ap, arith, rules}
 use Rattle.codes.proofs.code.code_register.Goals as goal
 
 pub code_text-requires : goal.code_text-requires
-code_text-requires c = let b = c in
-    record { in_bounds = b.requires.in_bounds; k_bound = omega arith; at_in_bounds = omega (arith, bytes b.args.tables.now b.requires.tables_value); at_value = register_size_lem b.args.tables.now b.requires.tables_value b.args.r c.if-r-lt160.true }
+code_text-requires c = record { in_bounds = c.requires.in_bounds; k_bound = omega arith; at_in_bounds = omega (arith, bytes c.args.tables.now c.requires.tables_value); at_value = register_size_lem c.args.tables.now c.requires.tables_value c.args.r c.if-r-lt160.true }
 
 pub returns-then-r-lt160 : goal.returns-then-r-lt160
 returns-then-r-lt160 c s =
-    let b = c in
-    as_token _ (token 1 (register_name b.args.r)) (ap (token 1) (register_is b.args.tables.now b.requires.tables_value b.args.r c.if-r-lt160.true))
+    as_token _ (token 1 (register_name c.args.r)) (ap (token 1) (register_is c.args.tables.now c.requires.tables_value c.args.r c.if-r-lt160.true))
     (c.code_text.ensures s)
 
 pub returns : goal.returns
 returns c s =
-    let b = c in
-    as_token _ (token 1 (register_name b.args.r)) (ap (token 1) (sym (no_register b.args.r c.if-r-lt160.false)))
-    (none_coded b.args.tables.now s b.args.codes.now _ 1 (omega arith) c.put_code.ensures)
+    as_token _ (token 1 (register_name c.args.r)) (ap (token 1) (sym (no_register c.args.r c.if-r-lt160.false)))
+    (none_coded c.args.tables.now s c.args.codes.now _ 1 (omega arith) c.put_code.ensures)

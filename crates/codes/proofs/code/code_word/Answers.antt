@@ -8,21 +8,18 @@ use Rattle.codes.proofs.code.code_word.Goals as goal
 
 pub bounds-tables-at : goal.bounds-tables-at
 bounds-tables-at c =
-    let b = c in omega (arith, bytes b.args.tables.now b.requires.tables_value)
+    omega (arith, bytes c.args.tables.now c.requires.tables_value)
 
 pub code_text-requires : goal.code_text-requires
-code_text-requires c = let b = c in
-    let t = b.args.tables.now in
+code_text-requires c = let t = c.args.tables.now in
     let h = c.if-w-lt102.true in
-    record { in_bounds = b.requires.in_bounds; k_bound = word_kind t b.requires.tables_value b.args.w h; at_in_bounds = omega (arith, bytes t b.requires.tables_value); at_value = word_size t b.requires.tables_value b.args.w h }
+    record { in_bounds = c.requires.in_bounds; k_bound = word_kind t c.requires.tables_value c.args.w h; at_in_bounds = omega (arith, bytes t c.requires.tables_value); at_value = word_size t c.requires.tables_value c.args.w h }
 
 pub returns-then-w-lt102 : goal.returns-then-w-lt102
 returns-then-w-lt102 c s =
-    let b = c in
-    as_token _ (word_token b.args.w) (word_is b.args.tables.now b.requires.tables_value b.args.w c.if-w-lt102.true) (c.code_text.ensures s)
+    as_token _ (word_token c.args.w) (word_is c.args.tables.now c.requires.tables_value c.args.w c.if-w-lt102.true) (c.code_text.ensures s)
 
 pub returns : goal.returns
 returns c s =
-    let b = c in
-    as_token _ (word_token b.args.w) (no_word b.args.w c.if-w-lt102.false)
-    (none_coded b.args.tables.now s b.args.codes.now _ 0 (omega arith) c.put_code.ensures)
+    as_token _ (word_token c.args.w) (no_word c.args.w c.if-w-lt102.false)
+    (none_coded c.args.tables.now s c.args.codes.now _ 0 (omega arith) c.put_code.ensures)

@@ -11,14 +11,7 @@ loop-i-init c = scan_start _
 
 pub loop-i-preserved : goal.loop-i-preserved
 loop-i-preserved c =
-    let c₁ = c in
-    let c₂ = c₁ in
-    let c₃ = c₂ in
-    let c₄ = c₃ in
-    let c₅ = c₄ in
-    let c₆ = c₅ in
-    let c₇ = c₆ in
-    count_turn c₇.loop-i.invariant c₆.loop-i-test.true c₅.effect_of.ensures c₄.number_of-k.ensures c₃.plus-x.ensures c₂.plus-n.ensures c₁.plus-l.ensures c.next-t.ensures
+    count_turn c.loop-i.invariant c.loop-i-test.true c.effect_of.ensures c.number_of-k.ensures c.plus-x.ensures c.plus-n.ensures c.plus-l.ensures c.next-t.ensures
 
 pub returns : goal.returns
 returns c = rw c.is_start.ensures (scan_end c.loop-i.invariant c.loop-i-test.false)

@@ -9,15 +9,8 @@ returns-then-no-ne0 c = refused_as _ c.measure-count.ensures c.count_no-no.ensur
 
 pub fill-requires : goal.fill-requires
 fill-requires c =
-    let c₁ = c in
-    let c₂ = c₁ in
-    let c₃ = c₂ in
-    room_as _ c₃.measure-count.ensures c₂.count_no-no.ensures c₁.if-no-ne0.false
+    room_as _ c.measure-count.ensures c.count_no-no.ensures c.if-no-ne0.false
 
 pub returns : goal.returns
 returns c =
-    let c₁ = c in
-    let c₂ = c₁ in
-    let c₃ = c₂ in
-    let c₄ = c₃ in
-    filled_as _ c₄.measure-count.ensures c₃.count_no-no.ensures refl c₂.if-no-ne0.false c₁.fill.ensures
+    filled_as _ c.measure-count.ensures c.count_no-no.ensures refl c.if-no-ne0.false c.fill.ensures

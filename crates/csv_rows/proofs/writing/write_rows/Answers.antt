@@ -7,7 +7,7 @@ use Rattle.csv_rows.proofs.Calls.{refused, few, short, room, wrote}
 use Rattle.csv_rows.proofs.writing.write_rows.Goals as goal
 
 pub file_size-n-requires : goal.file_size-n-requires
-file_size-n-requires c = let a = c in few (lists_of a.args.text.now a.args.ends.now a.args.kinds.now a.args.addresses.now a.args.marks.now a.args.places.now a.args.lines.now) a.args.sizes a.args.out.now (sym c.if-lists_hold.true ∙ c.lists_hold.ensures) (λ i. omega (arith, c.shared_slice_known-2-1.given i)) (λ i. omega (arith, c.shared_slice_known-7-1.given i))
+file_size-n-requires c = few (lists_of c.args.text.now c.args.ends.now c.args.kinds.now c.args.addresses.now c.args.marks.now c.args.places.now c.args.lines.now) c.args.sizes c.args.out.now (sym c.if-lists_hold.true ∙ c.lists_hold.ensures) (λ i. omega (arith, c.shared_slice_known-2-1.given i)) (λ i. omega (arith, c.shared_slice_known-7-1.given i))
 
 pub put_rows-requires : goal.put_rows-requires
 put_rows-requires c = room _ _ c.args.out.now (sym c.if-lists_hold.true ∙ c.lists_hold.ensures) c.file_size-n.ensures (omega (arith, c.if-n-out.true))

@@ -6,5 +6,4 @@ use Rattle.record.proofs.asked.contents_no.Goals as goal
 pub returns : goal.returns
 unfolding contents_no
 returns c =
-    let q = c in
-    simp (c.ask-4.ensures, c.ask-3.ensures, c.ask-2.ensures, c.ask.ensures, q.spans_asked-spans.ensures, q.atlas_asked-atlas.ensures, q.branches_asked-branches.ensures, q.bodies_asked-bodies.ensures)
+    simp (c.ask-4.ensures, c.ask-3.ensures, c.ask-2.ensures, c.ask.ensures, c.spans_asked-spans.ensures, c.atlas_asked-atlas.ensures, c.branches_asked-branches.ensures, c.bodies_asked-bodies.ensures)

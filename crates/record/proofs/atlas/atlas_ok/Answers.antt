@@ -8,16 +8,12 @@ use Rattle.record.proofs.atlas.atlas_ok.Goals as goal
 pub returns-then-text_start-text : goal.returns-then-text_start-text
 unfolding atlas_ok
 returns-then-text_start-text c =
-    let t = c in
-    let e = t in
-    simp (sym e.entries_ok.ensures, t.if-entries_ok.true, sym t.text_start.ensures, eq-eqb _ _ c.if-text_start-text.true, c.texts_ok.ensures)
+    simp (sym c.entries_ok.ensures, c.if-entries_ok.true, sym c.text_start.ensures, eq-eqb _ _ c.if-text_start-text.true, c.texts_ok.ensures)
 
 pub returns-else-text_start-text : goal.returns-else-text_start-text
 unfolding atlas_ok
 returns-else-text_start-text c =
-    let t = c in
-    let e = t in
-    simp (sym e.entries_ok.ensures, t.if-entries_ok.true, sym t.text_start.ensures, ne_eqb _ _ c.if-text_start-text.false)
+    simp (sym c.entries_ok.ensures, c.if-entries_ok.true, sym c.text_start.ensures, ne_eqb _ _ c.if-text_start-text.false)
 
 pub returns-else-entries_ok : goal.returns-else-entries_ok
 unfolding atlas_ok

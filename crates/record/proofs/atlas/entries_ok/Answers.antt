@@ -12,14 +12,12 @@ use Rattle.record.proofs.atlas.entries_ok.Goals as goal
 
 pub loop-k-preserved : goal.loop-k-preserved
 loop-k-preserved c =
-    let l = c in
     let a = c.entry_address-a in
-    let e : l.loop-k.k + 1 - 1 ≡ l.loop-k.k = omega arith in
-    (search rules, rw e a.ensures, simp (all_more, l.loop-k.invariant.2, l.loop-k.invariant.1, a.ensures, c.entry_kind_ok.ensures, c.entry_kind.ensures))
+    let e : c.loop-k.k + 1 - 1 ≡ c.loop-k.k = omega arith in
+    (search rules, rw e a.ensures, simp (all_more, c.loop-k.invariant.2, c.loop-k.invariant.1, a.ensures, c.entry_kind_ok.ensures, c.entry_kind.ensures))
 
 pub returns : goal.returns
 unfolding entries_ok
 returns c =
-    let l = c in
-    let e : l.loop-k.k ≡ l.args.atlas = omega arith in
-    simp (l.loop-k.invariant.2, e)
+    let e : c.loop-k.k ≡ c.args.atlas = omega arith in
+    simp (c.loop-k.invariant.2, e)

@@ -12,6 +12,5 @@ use Rattle.record.proofs.atlas.spans_ok.Goals as goal
 pub returns : goal.returns
 unfolding spans_ok
 returns c =
-    let l = c in
-    let e : l.loop-k.k ≡ l.args.count = omega arith in
-    simp (l.loop-k.invariant.1, e)
+    let e : c.loop-k.k ≡ c.args.count = omega arith in
+    simp (c.loop-k.invariant.1, e)

@@ -12,6 +12,5 @@ use Rattle.record.proofs.atlas.text_ok.Goals as goal
 pub returns : goal.returns
 unfolding text_ok
 returns c =
-    let l = c in
-    let e : l.loop-j.j ≡ l.args.n = omega arith in
-    simp (l.loop-j.invariant.1, e)
+    let e : c.loop-j.j ≡ c.args.n = omega arith in
+    simp (c.loop-j.invariant.1, e)

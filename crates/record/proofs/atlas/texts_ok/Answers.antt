@@ -17,13 +17,11 @@ loop-k-init c = search rules
 
 pub loop-k-preserved : goal.loop-k-preserved
 loop-k-preserved c =
-    let l = c in
     let n = c.entry_length-n in
-    (search rules, search rules, rw text_more (omega arith), simp (all_more, l.loop-k.invariant.3, c.text_ok-ok.ensures, c.entry_kind.ensures, n.ensures.0, c.from.ensures.0, l.loop-k.invariant.2))
+    (search rules, search rules, rw text_more (omega arith), simp (all_more, c.loop-k.invariant.3, c.text_ok-ok.ensures, c.entry_kind.ensures, n.ensures.0, c.from.ensures.0, c.loop-k.invariant.2))
 
 pub returns : goal.returns
 unfolding texts_ok
 returns c =
-    let l = c in
-    let e : l.loop-k.k ≡ l.args.atlas = omega arith in
-    simp (l.loop-k.invariant.3, e)
+    let e : c.loop-k.k ≡ c.args.atlas = omega arith in
+    simp (c.loop-k.invariant.3, e)

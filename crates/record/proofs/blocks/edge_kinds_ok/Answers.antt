@@ -12,6 +12,5 @@ use Rattle.record.proofs.blocks.edge_kinds_ok.Goals as goal
 pub returns : goal.returns
 unfolding edge_kinds_ok
 returns c =
-    let l = c in
-    let e : l.loop-e.e ≡ l.args.edges = omega arith in
-    simp (l.loop-e.invariant.1, e)
+    let e : c.loop-e.e ≡ c.args.edges = omega arith in
+    simp (c.loop-e.invariant.1, e)

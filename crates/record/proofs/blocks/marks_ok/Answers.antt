@@ -12,6 +12,5 @@ use Rattle.record.proofs.blocks.marks_ok.Goals as goal
 pub returns : goal.returns
 unfolding marks_ok
 returns c =
-    let l = c in
-    let e : l.loop-k.k ≡ l.args.blocks = omega arith in
-    simp (l.loop-k.invariant.3, l.loop-k.invariant.4, l.loop-k.invariant.5, e)
+    let e : c.loop-k.k ≡ c.args.blocks = omega arith in
+    simp (c.loop-k.invariant.3, c.loop-k.invariant.4, c.loop-k.invariant.5, e)

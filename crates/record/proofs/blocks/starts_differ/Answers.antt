@@ -18,14 +18,12 @@ returns-then-starts_rise c = sym (rising_differ _ _ (sym c.starts_rise.ensures �
 pub returns-then-not-start_is_new : goal.returns-then-not-start_is_new
 unfolding starts_differ
 returns-then-not-start_is_new c =
-    let l = c in
-    let a = l.args in
+    let a = c.args in
     let n = c.start_is_new in
-    sym (all_fails (start_is_new a.starts.now) a.blocks l.loop-k.k (search rules) (sym n.ensures ∙ c.if-not-start_is_new.true))
+    sym (all_fails (start_is_new a.starts.now) a.blocks c.loop-k.k (search rules) (sym n.ensures ∙ c.if-not-start_is_new.true))
 
 pub returns : goal.returns
 unfolding starts_differ
 returns c =
-    let l = c in
-    let e : l.loop-k.k ≡ l.args.blocks = omega arith in
-    sym (rw e at l.loop-k.invariant.1)
+    let e : c.loop-k.k ≡ c.args.blocks = omega arith in
+    sym (rw e at c.loop-k.invariant.1)

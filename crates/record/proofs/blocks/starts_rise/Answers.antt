@@ -11,6 +11,5 @@ use Rattle.record.proofs.blocks.starts_rise.Goals as goal
 pub returns : goal.returns
 unfolding starts_rise
 returns c =
-    let l = c in
-    let e : l.loop-k.k ≡ l.args.blocks = omega arith in
-    simp (l.loop-k.invariant.2, e)
+    let e : c.loop-k.k ≡ c.args.blocks = omega arith in
+    simp (c.loop-k.invariant.2, e)

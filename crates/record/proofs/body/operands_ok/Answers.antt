@@ -11,6 +11,5 @@ use Rattle.record.proofs.body.operands_ok.Goals as goal
 pub returns : goal.returns
 unfolding operands_ok
 returns c =
-    let l = c in
-    let e : l.loop-i.i ≡ 5 = omega arith in
-    simp (l.loop-i.invariant.1, e)
+    let e : c.loop-i.i ≡ 5 = omega arith in
+    simp (c.loop-i.invariant.1, e)

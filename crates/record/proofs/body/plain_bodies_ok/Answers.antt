@@ -15,14 +15,12 @@ use Rattle.record.proofs.body.plain_bodies_ok.Goals as goal
 pub returns-then-not-plain_body_ok : goal.returns-then-not-plain_body_ok
 unfolding bodies_ok
 returns-then-not-plain_body_ok c =
-    let l = c in
-    let a = l.args in
+    let a = c.args in
     let n = c.plain_body_ok in
-    sym (all_fails (λ j. body_ok (body_at a.bodies.now j)) a.instructions l.loop-i.i (search rules) (sym (n.ensures ∙ ap body_ok c.body_at.ensures) ∙ c.if-not-plain_body_ok.true))
+    sym (all_fails (λ j. body_ok (body_at a.bodies.now j)) a.instructions c.loop-i.i (search rules) (sym (n.ensures ∙ ap body_ok c.body_at.ensures) ∙ c.if-not-plain_body_ok.true))
 
 pub returns : goal.returns
 unfolding bodies_ok
 returns c =
-    let l = c in
-    let e : l.loop-i.i ≡ l.args.instructions = omega arith in
-    sym (rw e at l.loop-i.invariant.1)
+    let e : c.loop-i.i ≡ c.args.instructions = omega arith in
+    sym (rw e at c.loop-i.invariant.1)

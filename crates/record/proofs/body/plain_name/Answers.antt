@@ -12,6 +12,5 @@ use Rattle.record.proofs.body.plain_name.Goals as goal
 pub returns : goal.returns
 unfolding is_name
 returns c =
-    let l = c in
-    let e : l.loop-k.k ≡ 23 = omega arith in
-    simp (c.name_byte-2.ensures, l.plain_u8-first.ensures.0, l.loop-k.invariant.2, e)
+    let e : c.loop-k.k ≡ 23 = omega arith in
+    simp (c.name_byte-2.ensures, c.plain_u8-first.ensures.0, c.loop-k.invariant.2, e)

@@ -33,9 +33,8 @@ loop-k-init c = search rules
 
 pub loop-k-preserved : goal.loop-k-preserved
 loop-k-preserved c =
-    let l = c in
-    let a = l.args in
-    let v = l.loop-k.invariant in
+    let a = c.args in
+    let v = c.loop-k.invariant in
     let e = c.edges_in-n.ensures in
     let i = c.instructions_in-c.ensures in (
       search rules,
@@ -43,12 +42,11 @@ loop-k-preserved c =
       omega (arith, v.2, i.1),
       rw edges_more (omega (arith, v.3, e.0)),
       rw instructions-more (omega (arith, v.4, i.0)),
-      simp (all_more, v.5, agrees_at a.targets.now a.kinds.now a.marks.now a.bodies.now _ _ _ _ _ l.loop-k.k _ c.branch_agrees-ok.ensures c.last_of-last.ensures i.0 e.0 v.3 v.4),
+      simp (all_more, v.5, agrees_at a.targets.now a.kinds.now a.marks.now a.bodies.now _ _ _ _ _ c.loop-k.k _ c.branch_agrees-ok.ensures c.last_of-last.ensures i.0 e.0 v.3 v.4),
     )
 
 pub returns : goal.returns
 unfolding branches_ok
 returns c =
-    let l = c in
-    let e : l.loop-k.k ≡ l.args.blocks = omega arith in
-    simp (l.loop-k.invariant.5, e)
+    let e : c.loop-k.k ≡ c.args.blocks = omega arith in
+    simp (c.loop-k.invariant.5, e)

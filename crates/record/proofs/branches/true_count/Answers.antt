@@ -11,6 +11,5 @@ use Rattle.record.proofs.branches.true_count.Goals as goal
 pub returns : goal.returns
 unfolding true_count
 returns c =
-    let l = c in
-    let e : l.loop-m.m ≡ l.args.n = omega arith in
-    simp (l.loop-m.invariant.2, e)
+    let e : c.loop-m.m ≡ c.args.n = omega arith in
+    simp (c.loop-m.invariant.2, e)

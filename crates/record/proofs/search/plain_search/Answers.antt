@@ -10,21 +10,17 @@ use Rattle.record.proofs.search.plain_search.Goals as goal
 
 pub returns-then-a-x : goal.returns-then-a-x
 returns-then-a-x c =
-    let b = c in
     let a = c.plain_u64-a.ensures.0 in
-    sym (find_first _ _ 0 _ _ (omega arith) (omega arith) (found_first b.requires.rises a (omega arith) c.if-a-x.true) (sym a ∙ c.if-a-x.true))
+    sym (find_first _ _ 0 _ _ (omega arith) (omega arith) (found_first c.requires.rises a (omega arith) c.if-a-x.true) (sym a ∙ c.if-a-x.true))
 
 pub loop-low-preserved-then-a-x-2 : goal.loop-low-preserved-then-a-x-2
 loop-low-preserved-then-a-x-2 c =
-    let l = c in
-    (omega arith, omega arith, go_up l.requires.rises c.plain_u64-a.ensures.0 (omega arith) l.loop-low.invariant.2 c.if-a-x-2.true)
+    (omega arith, omega arith, go_up c.requires.rises c.plain_u64-a.ensures.0 (omega arith) c.loop-low.invariant.2 c.if-a-x-2.true)
 
 pub loop-low-preserved : goal.loop-low-preserved
 loop-low-preserved c =
-    let l = c in
-    (omega arith, omega arith, go_down l.requires.rises c.plain_u64-a.ensures.0 (omega arith) l.loop-low.invariant.2 c.if-a-x-2.false c.if-a-x.false)
+    (omega arith, omega arith, go_down c.requires.rises c.plain_u64-a.ensures.0 (omega arith) c.loop-low.invariant.2 c.if-a-x-2.false c.if-a-x.false)
 
 pub returns : goal.returns
 returns c =
-    let l = c in
-    sym (find_nothing _ _ 0 _ (λ j a. between_none l.loop-low.invariant.2 c.loop-low-test.false j (omega arith)))
+    sym (find_nothing _ _ 0 _ (λ j a. between_none c.loop-low.invariant.2 c.loop-low-test.false j (omega arith)))

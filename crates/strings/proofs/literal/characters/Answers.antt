@@ -11,13 +11,8 @@ loop-n-init c = begins_none _
 
 pub returns-then-c-eq0 : goal.returns-then-c-eq0
 returns-then-c-eq0 c =
-    let c₁ = c in
-    let c₂ = c₁ in
-    begins_last _ _ _ _ _ _ c₂.from.ensures.0 c₁.first-c.ensures c₂.loop-n.invariant c.if-c-eq0.true
+    begins_last _ _ _ _ _ _ c.from.ensures.0 c.first-c.ensures c.loop-n.invariant c.if-c-eq0.true
 
 pub loop-n-preserved : goal.loop-n-preserved
 loop-n-preserved c =
-    let c₁ = c in
-    let c₂ = c₁ in
-    let c₃ = c₂ in
-    begins_more _ _ _ _ _ _ c₂.from.ensures.0 c₁.first-c.ensures c₃.loop-n.invariant (omega (arith, c₃.loop-n-test.true)) c.if-c-eq0.false
+    begins_more _ _ _ _ _ _ c.from.ensures.0 c.first-c.ensures c.loop-n.invariant (omega (arith, c.loop-n-test.true)) c.if-c-eq0.false

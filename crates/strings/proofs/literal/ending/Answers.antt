@@ -17,11 +17,9 @@ returns-then-same-2 c = ends_cut _ _ c.if-n-eq80.true (c.same-then-n-eq80.ensure
 pub returns-else-same-2 : goal.returns-else-same-2
 unfolding closing
 returns-else-same-2 c =
-    let c₁ = c in
-    ends_not _ _ (λ e. never (sym c₁.if-same.false ∙ c₁.same.ensures.1 e)) (λ _ e. never (sym c.if-same-2.false ∙ c.same-then-n-eq80.ensures.1 e))
+    ends_not _ _ (λ e. never (sym c.if-same.false ∙ c.same.ensures.1 e)) (λ _ e. never (sym c.if-same-2.false ∙ c.same-then-n-eq80.ensures.1 e))
 
 pub returns-else-n-eq80 : goal.returns-else-n-eq80
 unfolding closing
 returns-else-n-eq80 c =
-    let c₁ = c in
-    ends_not _ _ (λ e. never (sym c₁.if-same.false ∙ c₁.same.ensures.1 e)) (λ k _. c.if-n-eq80.false k)
+    ends_not _ _ (λ e. never (sym c.if-same.false ∙ c.same.ensures.1 e)) (λ k _. c.if-n-eq80.false k)

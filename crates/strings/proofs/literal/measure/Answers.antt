@@ -5,7 +5,4 @@ use Rattle.strings.proofs.literal.measure.Goals as goal
 
 pub returns : goal.returns
 returns c =
-    let c₁ = c in
-    let c₂ = c₁ in
-    let c₃ = c₂ in
-    measured _ _ _ _ _ _ _ c₃.opening_size-at.ensures c₃.from-inside.ensures.0 c₂.characters-run.ensures c₁.from.ensures.0 c.ending-end.ensures
+    measured _ _ _ _ _ _ _ c.opening_size-at.ensures c.from-inside.ensures.0 c.characters-run.ensures c.from.ensures.0 c.ending-end.ensures

@@ -14,15 +14,10 @@ returns-then-u8_at-eq34 c = opens _ (sym c.u8_at.ensures.0 ∙ c.if-u8_at-eq34.t
 
 pub returns-then-u8_at : goal.returns-then-u8_at
 returns-then-u8_at c =
-    let c₁ = c in
-    let c₂ = c₁ in
-    let f = both_yes (eqb c₂.u8_at-2.result 76) (eqb c₁.u8_at-3.result 34) c.if-u8_at.true in
-    opens_wide _ (sym c₂.u8_at-2.ensures.0 ∙ eqb-true _ 76 f.0) (sym c₁.u8_at-3.ensures.0 ∙ eqb-true _ 34 f.1)
+    let f = both_yes (eqb c.u8_at-2.result 76) (eqb c.u8_at-3.result 34) c.if-u8_at.true in
+    opens_wide _ (sym c.u8_at-2.ensures.0 ∙ eqb-true _ 76 f.0) (sym c.u8_at-3.ensures.0 ∙ eqb-true _ 34 f.1)
 
 pub returns : goal.returns
 returns c =
-    let c₁ = c in
-    let c₂ = c₁ in
-    let c₃ = c₂ in
-    opens_not _ (λ q. c₃.if-u8_at-eq34.false (c₃.u8_at.ensures.0 ∙ q))
-    (λ q r. never (sym c.if-u8_at.false ∙ both _ _ (eq-eqb c₂.u8_at-2.result 76 (c₂.u8_at-2.ensures.0 ∙ q)) (eq-eqb c₁.u8_at-3.result 34 (c₁.u8_at-3.ensures.0 ∙ r))))
+    opens_not _ (λ q. c.if-u8_at-eq34.false (c.u8_at.ensures.0 ∙ q))
+    (λ q r. never (sym c.if-u8_at.false ∙ both _ _ (eq-eqb c.u8_at-2.result 76 (c.u8_at-2.ensures.0 ∙ q)) (eq-eqb c.u8_at-3.result 34 (c.u8_at-3.ensures.0 ∙ r))))

@@ -7,11 +7,7 @@ use Rattle.strings.proofs.reading.fill.Goals as goal
 
 pub loop-k-preserved : goal.loop-k-preserved
 loop-k-preserved c =
-    let c₀ = c in
-    let c₁ = c₀ in
-    let c₂ = c₁ in
-    let c₃ = c₂ in
-    filling_more _ _ _ _ _ _ _ _ _ _ c₂.from.ensures.0 c₁.first-c.ensures c₀.store.ensures c₃.loop-k.invariant c₃.loop-k-test.true
+    filling_more _ _ _ _ _ _ _ _ _ _ c.from.ensures.0 c.first-c.ensures c.store.ensures c.loop-k.invariant c.loop-k-test.true
 
 pub returns : goal.returns
 returns c = filling_end _ _ _ _ _ _ c.loop-k.invariant c.loop-k-test.false

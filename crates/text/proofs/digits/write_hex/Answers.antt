@@ -19,18 +19,16 @@ bounds-out-i c = omega (arith, hex_some c.args.upper c.loop-w.w)
 
 pub loop-w-preserved : goal.loop-w-preserved
 loop-w-preserved c =
-    let l = c in
-    let h = hex_count_more l.args.upper l.loop-w.w c.loop-w-test.true in (
-      omega (arith, h, l.loop-w.invariant.0),
-      simp length-set l.loop-w.invariant.1,
-      turn _ _ _ _ _ _ c.loop-w-test.true l.loop-w.invariant.0 c.digit_of.ensures refl ∙ l.loop-w.invariant.2,
-      omega (arith, h, l.loop-w.invariant.3),
+    let h = hex_count_more c.args.upper c.loop-w.w c.loop-w-test.true in (
+      omega (arith, h, c.loop-w.invariant.0),
+      simp length-set c.loop-w.invariant.1,
+      turn _ _ _ _ _ _ c.loop-w-test.true c.loop-w.invariant.0 c.digit_of.ensures refl ∙ c.loop-w.invariant.2,
+      omega (arith, h, c.loop-w.invariant.3),
     )
 
 pub bounds-out-0 : goal.bounds-out-0
 bounds-out-0 c = omega (arith, hex_some c.args.upper c.loop-w.w)
 
 pub returns : goal.returns
-returns c = let l = c in
-    let a = l.args in
-    let one = ap length (hex_one a.upper l.loop-w.w c.loop-w-test.false) in record { count = (omega (arith, one, l.loop-w.invariant.3), omega (arith, one, l.loop-w.invariant.3, hex_64 a.upper a.v (search rules))); text = last _ _ _ _ _ c.loop-w-test.false c.digit_of-2.ensures refl ∙ l.loop-w.invariant.2 }
+returns c = let a = c.args in
+    let one = ap length (hex_one a.upper c.loop-w.w c.loop-w-test.false) in record { count = (omega (arith, one, c.loop-w.invariant.3), omega (arith, one, c.loop-w.invariant.3, hex_64 a.upper a.v (search rules))); text = last _ _ _ _ _ c.loop-w-test.false c.digit_of-2.ensures refl ∙ c.loop-w.invariant.2 }

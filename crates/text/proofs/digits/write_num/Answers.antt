@@ -24,10 +24,9 @@ write_size-requires c =
     rest_room 1 (size_text a.size) (set e 0 45) (simp length-set (omega (arith, ap length (num_minus _ a.size c.if-negative.true))))
 
 pub returns-then-negative : goal.returns-then-negative
-returns-then-negative c = let a = c in
-    let w = c.write_size.ensures in
-    let e = a.args.out.now in
-    let s = num_minus _ a.args.size a.if-negative.true in
+returns-then-negative c = let w = c.write_size.ensures in
+    let e = c.args.out.now in
+    let s = num_minus _ c.args.size c.if-negative.true in
     let m : 1 ≡ min 1 (length (set e 0 45)) = simp length-set (omega (arith, ap length s)) in
     rw s (record { count = (omega (arith, w.count.0), omega arith); text = put_both 1 1 (45 ∷ []) _ e _ _ refl (one_stored 45 e) m w.text })
 

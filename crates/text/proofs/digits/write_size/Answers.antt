@@ -34,10 +34,9 @@ write_hex-requires c =
     rest_room 2 (hex_text false a.size) (set (set e 0 48) 1 120) (simp length-set (omega (arith, ap length (size_hex _ c.if-size-lt10.false))))
 
 pub returns : goal.returns
-returns c = let a = c in
-    let w = c.write_hex.ensures in
-    let e = a.args.out.now in
-    let s = size_hex _ a.if-size-lt10.false in
+returns c = let w = c.write_hex.ensures in
+    let e = c.args.out.now in
+    let s = size_hex _ c.if-size-lt10.false in
     let m : 2 ≡ min 2 (length (set (set e 0 48) 1 120)) = simp length-set (omega (arith, ap length s)) in
     rw s (record { count = (omega (arith, w.count.0), omega arith); text = put_both 2 2 (48 ∷ 120 ∷ []) _ e _ _ refl (two_stored 48 120 e) m w.text })
 

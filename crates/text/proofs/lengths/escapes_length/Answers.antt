@@ -10,14 +10,12 @@ use Rattle.text.proofs.lengths.escapes_length.Goals as goal
 
 pub loop-i-preserved : goal.loop-i-preserved
 loop-i-preserved c =
-    let l = c in
-    let s = l.args.s.now in
-    let h : l.loop-i.i < min 80 (length s) = omega arith in
-    (omega arith, omega arith, omega (arith, l.loop-i.invariant.2, escapes_count s 80 l.loop-i.i h, c.escape_length-sum.ensures.0))
+    let s = c.args.s.now in
+    let h : c.loop-i.i < min 80 (length s) = omega arith in
+    (omega arith, omega arith, omega (arith, c.loop-i.invariant.2, escapes_count s 80 c.loop-i.i h, c.escape_length-sum.ensures.0))
 
 pub returns : goal.returns
 returns c =
-    let l = c in
-    let s = l.args.s.now in
-    let h : min 80 (length s) ≤ l.loop-i.i = omega arith in
-    (omega (arith, l.loop-i.invariant.2, escapes_none s 80 l.loop-i.i h), omega arith)
+    let s = c.args.s.now in
+    let h : min 80 (length s) ≤ c.loop-i.i = omega arith in
+    (omega (arith, c.loop-i.invariant.2, escapes_none s 80 c.loop-i.i h), omega arith)

@@ -9,9 +9,8 @@ use Rattle.text.proofs.literal.put_escape.Goals as goal
 
 pub returns-then-b : goal.returns-then-b
 unfolding unseen
-returns-then-b c = let p = c in rw (escape_special _ p.if-b.true) p.put_spelling.ensures
+returns-then-b c = rw (escape_special _ c.if-b.true) c.put_spelling.ensures
 
 pub returns : goal.returns
 unfolding unseen
-returns c = let s = c in
-    rw (escape_self _ s.if-b.false) (record { count = (refl, omega arith); text = rw (put_cons, put_none) s.store.ensures })
+returns c = rw (escape_self _ c.if-b.false) (record { count = (refl, omega arith); text = rw (put_cons, put_none) c.store.ensures })

@@ -26,19 +26,16 @@ module _ (s : List ℕ) (i at : ℕ) (e : List ℕ) (h : min 80 (length s) ≤ i
 
 pub loop-i-preserved : goal.loop-i-preserved
 loop-i-preserved c =
-    let w = c in
-    let l = w in
-    let s = l.args.s.now in
-    let h : l.loop-i.i < min 80 (length s) = omega arith in (
+    let s = c.args.s.now in
+    let h : c.loop-i.i < min 80 (length s) = omega arith in (
       omega arith,
       omega arith,
       search rules,
-      omega (arith, l.loop-i.invariant.3, escapes_count s 80 l.loop-i.i h, w.put_escape-at.ensures.count.0),
-      turn s l.loop-i.i _ _ _ _ _ h w.put_escape-at.ensures.count.0 w.within-m.ensures w.put_escape-at.ensures.text ∙ l.loop-i.invariant.4,
+      omega (arith, c.loop-i.invariant.3, escapes_count s 80 c.loop-i.i h, c.put_escape-at.ensures.count.0),
+      turn s c.loop-i.i _ _ _ _ _ h c.put_escape-at.ensures.count.0 c.within-m.ensures c.put_escape-at.ensures.text ∙ c.loop-i.invariant.4,
     )
 
 pub returns : goal.returns
-returns c = let l = c in
-    let s = l.args.s.now in
-    let h : min 80 (length s) ≤ l.loop-i.i = omega arith in
-    record { count = (omega (arith, l.loop-i.invariant.3, escapes_none s 80 l.loop-i.i h), omega arith); text = sym (done s _ _ _ h) ∙ l.loop-i.invariant.4 }
+returns c = let s = c.args.s.now in
+    let h : min 80 (length s) ≤ c.loop-i.i = omega arith in
+    record { count = (omega (arith, c.loop-i.invariant.3, escapes_none s 80 c.loop-i.i h), omega arith); text = sym (done s _ _ _ h) ∙ c.loop-i.invariant.4 }

@@ -6,6 +6,4 @@ use Rattle.lists.specs.PutLaws.{put_both}
 use Rattle.text.proofs.literal.put_inside.Goals as goal
 
 pub returns : goal.returns
-returns c = let h = c in
-    let f = h in
-    let p = f in record { count = (rw length-append (omega arith), omega arith); text = put_both _ _ _ _ _ _ _ p.put_escapes-n.ensures.count.0 p.put_escapes-n.ensures.text f.within-m.ensures h.put_closing.ensures.text }
+returns c = record { count = (rw length-append (omega arith), omega arith); text = put_both _ _ _ _ _ _ _ c.put_escapes-n.ensures.count.0 c.put_escapes-n.ensures.text c.within-m.ensures c.put_closing.ensures.text }

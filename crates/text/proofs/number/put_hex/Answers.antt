@@ -18,18 +18,12 @@ overflow_sub-i c = omega (arith, hex_some c.args.upper c.loop-w.w)
 
 pub loop-w-preserved : goal.loop-w-preserved
 loop-w-preserved c =
-    let k = c in
-    let g = k in
-    let b = g in
-    let n = b.args.upper in (
-      omega (arith, hex_count_more n b.loop-w.w (omega arith)),
-      k.store.auto.out ∙ b.loop-w.invariant.1,
-      turn _ _ _ _ _ _ b.loop-w-test.true b.loop-w.invariant.0 g.digit_of.ensures k.store.ensures ∙ b.loop-w.invariant.2,
+    let n = c.args.upper in (
+      omega (arith, hex_count_more n c.loop-w.w (omega arith)),
+      c.store.auto.out ∙ c.loop-w.invariant.1,
+      turn _ _ _ _ _ _ c.loop-w-test.true c.loop-w.invariant.0 c.digit_of.ensures c.store.ensures ∙ c.loop-w.invariant.2,
     )
 
 pub returns : goal.returns
-returns c = let k = c in
-    let g = k in
-    let b = g in
-    let h = b.hex_count-n.ensures in
-    record { count = (h.0 _, h.1); text = last _ _ _ _ _ b.loop-w-test.false g.digit_of-2.ensures k.store-2.ensures ∙ b.loop-w.invariant.2 }
+returns c = let h = c.hex_count-n.ensures in
+    record { count = (h.0 _, h.1); text = last _ _ _ _ _ c.loop-w-test.false c.digit_of-2.ensures c.store-2.ensures ∙ c.loop-w.invariant.2 }

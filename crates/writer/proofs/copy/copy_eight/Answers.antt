@@ -6,4 +6,4 @@ use Rattle.writer.proofs.CopyLaws.{eight}
 use Rattle.writer.proofs.copy.copy_eight.Goals as goal
 
 pub returns : goal.returns
-returns c = let a = c in eight a.args.s.now a.args.to a.args.from a.args.out.now a.requires.1
+returns c = eight c.args.s.now c.args.to c.args.from c.args.out.now c.requires.1

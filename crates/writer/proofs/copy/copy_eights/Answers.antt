@@ -11,11 +11,9 @@ use Rattle.writer.proofs.copy.copy_eights.Goals as goal
 
 pub loop-i-preserved : goal.loop-i-preserved
 loop-i-preserved c =
-    let l = c in
-    let b = l in
-    let a = b.args in (
+    let a = c.args in (
       omega arith,
       omega arith,
-      c.copy_eight.auto.out ∙ l.loop-i.invariant.2,
-      behind_part a.s.now l.loop-i.out _ a.at a.n l.loop-i.i 8 b.requires.0 (omega arith) c.copy_eight.ensures ∙ l.loop-i.invariant.3,
+      c.copy_eight.auto.out ∙ c.loop-i.invariant.2,
+      behind_part a.s.now c.loop-i.out _ a.at a.n c.loop-i.i 8 c.requires.0 (omega arith) c.copy_eight.ensures ∙ c.loop-i.invariant.3,
     )

@@ -6,4 +6,4 @@ use Rattle.writer.proofs.CopyLaws.{four}
 use Rattle.writer.proofs.copy.copy_four.Goals as goal
 
 pub returns : goal.returns
-returns c = let a = c in four a.args.s.now a.args.to a.args.from a.args.out.now a.requires.1
+returns c = four c.args.s.now c.args.to c.args.from c.args.out.now c.requires.1

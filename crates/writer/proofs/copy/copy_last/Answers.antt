@@ -6,9 +6,8 @@ use Rattle.writer.proofs.copy.copy_last.Goals as goal
 
 pub returns-then-n-eq1 : goal.returns-then-n-eq1
 returns-then-n-eq1 c =
-    let b = c in
-    let a = b.args in
-    one_left a.s.now a.out.now a.at a.n a.i b.requires.0 (omega arith) b.requires.3
+    let a = c.args in
+    one_left a.s.now a.out.now a.at a.n a.i c.requires.0 (omega arith) c.requires.3
 
 pub returns-else-n-eq1 : goal.returns-else-n-eq1
 returns-else-n-eq1 c =

@@ -6,4 +6,4 @@ use Rattle.writer.proofs.CopyLaws.{two}
 use Rattle.writer.proofs.copy.copy_two.Goals as goal
 
 pub returns : goal.returns
-returns c = let a = c in two a.args.s.now a.args.to a.args.from a.args.out.now a.requires.1
+returns c = two c.args.s.now c.args.to c.args.from c.args.out.now c.requires.1

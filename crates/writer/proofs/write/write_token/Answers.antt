@@ -12,24 +12,21 @@ use Rattle.writer.proofs.write.write_token.Goals as goal
 
 pub write_text-n-requires : goal.write_text-n-requires
 write_text-n-requires c =
-    let k = c in
-    let a = k.args in
-    let f = token_fits a.tables.now a.rec.now a.c a.v a.text.now a.ends.now a.kinds.now a.p k.requires.c_bound k.requires.fits in
+    let a = c.args in
+    let f = token_fits a.tables.now a.rec.now a.c a.v a.text.now a.ends.now a.kinds.now a.p c.requires.c_bound c.requires.fits in
     rest_room a.p.text (text_in a.tables.now a.rec.now a.c a.v) a.text.now f.text
 
 pub end_token-requires : goal.end_token-requires
-end_token-requires c = let k = c in
-    let a = k.args in
-    let f = token_fits a.tables.now a.rec.now a.c a.v a.text.now a.ends.now a.kinds.now a.p k.requires.c_bound k.requires.fits in
+end_token-requires c = let a = c.args in
+    let f = token_fits a.tables.now a.rec.now a.c a.v a.text.now a.ends.now a.kinds.now a.p c.requires.c_bound c.requires.fits in
     record { n_bound = omega (arith, f.small, c.write_text-n.ensures.count); tokens_in_bounds = (f.end, f.kind); c_bound = f.before }
 
 pub returns : goal.returns
 returns c =
-    let k = c in
-    let a = k.args in
-    let f = token_fits a.tables.now a.rec.now a.c a.v a.text.now a.ends.now a.kinds.now a.p k.requires.c_bound k.requires.fits in
+    let a = c.args in
+    let f = token_fits a.tables.now a.rec.now a.c a.v a.text.now a.ends.now a.kinds.now a.p c.requires.c_bound c.requires.fits in
     let w = c.write_text-n.ensures in
     let e = c.end_token.ensures in
     let m : a.p.text ≡ min a.p.text (length a.text.now) = omega (arith, f.text) in
-    token_written a.tables.now a.rec.now a.c a.v a.text.now a.ends.now a.kinds.now a.p _ _ _ _ _ k.requires.c_bound w.count
+    token_written a.tables.now a.rec.now a.c a.v a.text.now a.ends.now a.kinds.now a.p _ _ _ _ _ c.requires.c_bound w.count
     (put_rest a.p.text a.p.text (text_in a.tables.now a.rec.now a.c a.v) a.text.now _ m w.text) e.lists.0 e.lists.1 e.cursor

@@ -5,5 +5,4 @@ use Rattle.x86.proofs.conditions.negate.Goals as goal
 
 pub returns : goal.returns
 returns c =
-    let s = c in
-    rw c.column.ensures (condition_negated s.args.isa.now s.requires _)
+    rw c.column.ensures (condition_negated c.args.isa.now c.requires _)

@@ -5,5 +5,4 @@ use Rattle.x86.proofs.conditions.relation_after_test.Goals as goal
 
 pub returns : goal.returns
 returns c =
-    let s = c in
-    rw c.column.ensures (condition_test s.args.isa.now s.requires _)
+    rw c.column.ensures (condition_test c.args.isa.now c.requires _)

@@ -5,5 +5,4 @@ use Rattle.x86.proofs.mnemonics.writes_flags.Goals as goal
 
 pub returns : goal.returns
 returns c =
-    let s = c in
-    rw c.column.ensures (mnemonic_flags s.args.isa.now s.requires _)
+    rw c.column.ensures (mnemonic_flags c.args.isa.now c.requires _)

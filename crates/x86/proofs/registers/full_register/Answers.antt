@@ -5,5 +5,4 @@ use Rattle.x86.proofs.registers.full_register.Goals as goal
 
 pub returns : goal.returns
 returns c =
-    let s = c in
-    rw c.column.ensures (register_full s.args.isa.now s.requires _)
+    rw c.column.ensures (register_full c.args.isa.now c.requires _)

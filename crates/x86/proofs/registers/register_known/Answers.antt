@@ -9,5 +9,4 @@ plain_u8-requires c = omega (arith, missing_length _ c.requires)
 
 pub returns : goal.returns
 returns c =
-    let s = c in
-    rw c.plain_u8.ensures.0 (register_known s.args.missing.now s.requires _ (omega arith))
+    rw c.plain_u8.ensures.0 (register_known c.args.missing.now c.requires _ (omega arith))

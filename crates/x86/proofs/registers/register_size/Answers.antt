@@ -5,5 +5,4 @@ use Rattle.x86.proofs.registers.register_size.Goals as goal
 
 pub returns : goal.returns
 returns c =
-    let s = c in
-    rw c.column.ensures (register_sized s.args.isa.now s.requires _)
+    rw c.column.ensures (register_sized c.args.isa.now c.requires _)
