@@ -19,7 +19,7 @@ ends blocks edges to j e end h p le f g = (f ∙ h.first (j - 1) (omega arith), 
 
 pub returns-then-read : goal.returns-then-read
 returns-then-read c = let a = c.args in
-    let f = left_found a.blocks.now a.edges.now a.i.0 a.to.0 c.loop-j.j c.loop-j.looks c.loop-j.invariant.5 (search rules) {c = c.closes_loop-read.result} c.closes_loop-read.ensures.found c.closes_loop-read.ensures.looks.0 c.if-read.true in
+    let f = left_found a.blocks.now a.edges.now a.i.0 a.to.0 c.loop-j.j c.loop-j.looks c.loop-j.invariant.5 (search rules) {r = c.closes_loop-read.result} c.closes_loop-read.ensures.found c.closes_loop-read.ensures.looks.0 c.if-read.true in
     record { found = f.0; looks = (f.1, search rules) }
 
 pub loop-j-preserved : goal.loop-j-preserved
@@ -27,7 +27,7 @@ loop-j-preserved c =
     let a = c.args in
     let b = c.first_edge_in-e in
     let e = ends a.blocks.now a.edges.now a.to.0 c.loop-j.j b.result c.loop-j.end c.requires (search rules) c.loop-j.invariant.0 b.ensures.0 c.loop-j.invariant.1 in
-    let n = left_less a.blocks.now a.edges.now a.i.0 a.to.0 c.loop-j.j c.loop-j.looks c.loop-j.invariant.5 (search rules) {c = c.closes_loop-read.result} c.closes_loop-read.ensures.found c.closes_loop-read.ensures.looks.0 c.if-read.false in
+    let n = left_less a.blocks.now a.edges.now a.i.0 a.to.0 c.loop-j.j c.loop-j.looks c.loop-j.invariant.5 (search rules) {r = c.closes_loop-read.result} c.closes_loop-read.ensures.found c.closes_loop-read.ensures.looks.0 c.if-read.false in
     (search rules, e.0, omega (arith, e.1, c.loop-j.invariant.2, c.closes_loop-read.ensures.looks.1), c.loop-j.invariant.3, omega (arith, e.1, c.loop-j.invariant.4), n)
 
 pub returns : goal.returns

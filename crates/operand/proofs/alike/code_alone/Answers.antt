@@ -9,10 +9,9 @@ use Rattle.operand.proofs.alike.code_alone.Goals as goal
 
 pub returns : goal.returns
 returns c =
-    let k = c in
-    let a = k.args in
-    let rec : AllBytes a.rec.now = λ j. omega (arith, c.shared_slice_known-2-1.given j) in
-    let body : AllBytes a.body.now = λ j. omega (arith, c.shared_slice_known-3-1.given j) in
-    let shift = small32 a.h.shift (record { sfits = k.well-formed.1.1.1.0.1.1.1.1.1.1.1.1.1.1.0.1 }) in
+    let a = c.args in
+    let rec : AllBytes a.rec.now = λ j. omega (arith, c.type_inv.rec j) in
+    let body : AllBytes a.body.now = λ j. omega (arith, c.type_inv.body j) in
+    let shift = small32 a.h.shift (record { sfits = c.well_formed.1.1.1.0.1.1.1.1.1.1.1.1.1.1.0.1 }) in
     let w = op_within a.h a.rec.now a.body.now rec body shift a.i in
-    coded_alone _ _ _ _ (op_tokens a.h a.rec.now a.body.now a.i) c.start.ensures c.op.ensures (omega (arith, c.start.auto.codes, k.requires.in_bounds)) (omega (arith, c.op.auto.codes)) w.few w.short
+    coded_alone _ _ _ _ (op_tokens a.h a.rec.now a.body.now a.i) c.start.ensures c.op.ensures (omega (arith, c.start.auto.codes, c.requires.in_bounds)) (omega (arith, c.op.auto.codes)) w.few w.short
