@@ -1,0 +1,9 @@
+-- The block of an if-region: `emit_head` meets its contract.
+-- Its label, its shown instructions, its opening line, one after the other.
+use Rattle.structure.proofs.Parts.{head_parts}
+use Rattle.structure.proofs.Storing.{room_first, room_second, room_third, stored_three, room_one}
+use Rattle.structure.proofs.blocks.emit_head.Goals as goal
+
+pub returns : goal.returns
+returns c = let a = c.args in
+    record { lines = stored_three (head_parts a.blocks.now a.edges.now a.shown.now a.count a.from.0 a.i.0 a.to.0 a.indent) (rw c.is_labelled-wanted.ensures.found at c.label-n.ensures) c.body_lines-m.ensures (rw c.last_in.ensures.0 at c.put_line-next.ensures); looks = c.is_labelled-wanted.ensures.looks }

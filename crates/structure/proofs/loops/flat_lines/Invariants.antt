@@ -1,0 +1,17 @@
+-- The blocks of a do-body before its last: `flat_lines` meets its contract.
+-- The invariant: to store the lines of the blocks that are left is to store those of all.
+use mathlib.Core.Path.{◌≡◌, ap, ◌∙◌}
+use Prim.Native.Nat.{ℕ, ◌-◌}
+use Rattle.structure.specs.Plan.{flat_lines}
+use Rattle.structure.specs.Codes.{codes}
+use Rattle.structure.proofs.Parts.{flats_turn, flats_over}
+use Rattle.structure.proofs.Storing.{Left, left_all, left_step, left_done, left_part, left_length}
+use native.Mathlib.Omega.{arith}
+use Rattle.structure.proofs.loops.flat_lines.Given as goal
+
+abbrev pub invariant-loop-k : goal.invariant-loop-k
+invariant-loop-k l =
+    Left l.initial.out l.at (codes (flat_lines l.blocks l.shown l.i.0 l.last l.i.0 (l.last - l.i.0) l.indent)) l.out l.next (codes (flat_lines l.blocks l.shown l.i.0 l.last l.k (l.last - l.k) l.indent))
+
+abbrev pub decreases-loop-k : goal.decreases-loop-k
+decreases-loop-k l = l.last - l.k
