@@ -1,19 +1,18 @@
 -- How long a table's text can be: 178 bytes a row. There is an address for each row.
 -- Sixteen digits, a space, LF, and a dash or the pairs of at most 80 bytes.
 use mathlib.Core.Path.{◌≡◌, refl, sym, ◌∙◌}
-use mathlib.Core.Bool.{Bool, true, false}
+use mathlib.Core.Bool.{true}
 use mathlib.Core.List.{List, [], ◌∷◌, ◌++◌, append-nil}
 use Prim.Native.Nat.{ℕ, zero, suc, ◌+◌, ◌*◌, ◌≤◌, ◌<◌}
 use native.Mathlib.Omega.{arith}
 use lib.ListN.{length, length-append, length-map}
-use Rattle.text.specs.Number.{hex_digits}
 use Rattle.text.specs.NumberLaws.{hex_digits_length}
 use Rattle.rows.specs.Lists.{Lists}
 use Rattle.rows.specs.declared.answer.Sizes.{Sizes}
 use Rattle.lists.proofs.Tests.{split}
 use Rattle.commands.specs.Table.{Entry, Table, table_of}
 use Rattle.commands.specs.Called.{has_none, row_bytes, Told, table}
-use Rattle.commands.specs.Printed.{pairs, value_text, row_line, row_lines, table_text}
+use Rattle.commands.specs.Printed.{pairs, value_text, row_lines, table_text}
 use Rattle.commands.proofs.Printing.{line_length}
 use Rattle.commands.proofs.Told.{rows_count, told}
 

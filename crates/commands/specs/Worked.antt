@@ -1,12 +1,12 @@
 -- Worked examples of the command table: a line that sets a register, call lines, and what each call finds.
 -- Each is computed from the definitions.
-use Rattle.std.specs.Prelude.{◌≡◌, refl, true, false, List, [], ◌∷◌, ℕ, length}
+use Rattle.std.specs.Prelude.{◌≡◌, refl, true, List, [], ◌∷◌, ℕ, length}
 use Rattle.std.proofs.Math.Option.{none, some}
 use Prim.Native.String.{String}
 use Rattle.lists.specs.Ascii.{ascii}
-use Rattle.text.specs.Number.{digit, hex_of, hex_text, hex_digits}
-use Rattle.text.specs.Literal.{unseen, code_text, escape, escapes, opening, closing, literal_text}
-use Rattle.tokens.specs.Token.{Token, token, register, symbol, punct, keyword}
+use Rattle.text.specs.Number.{digit, hex_digits}
+use Rattle.text.specs.Literal.{unseen, escape, escapes, opening, closing, literal_text}
+use Rattle.tokens.specs.Token.{Token, token, register, symbol, punct}
 use Rattle.tokens.specs.Listing.{text_of, ends_from, kinds_of}
 use Rattle.tokens.specs.Lines.{token_at, line_at}
 use Rattle.rows.specs.Rows.{Row, row, row_at, all_tokens, token_counts, row_lists}

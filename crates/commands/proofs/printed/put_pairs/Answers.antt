@@ -1,10 +1,7 @@
 -- A text's bytes as pairs: `put_pairs` meets its contract.
 -- What is left from here is one byte and what is left behind it.
-use Prim.Native.Nat.{◌-◌}
-use native.Mathlib.Omega.{arith}
-use lib.ListN.{length}
-use Rattle.csv_rows.proofs.Going.{Going, going, go_length, go_turn, go_end}
-use Rattle.commands.proofs.Printing.{pairs_from, pairs_more, pairs_none, pairs_all, pairs_room}
+use Rattle.csv_rows.proofs.Going.{go_turn, go_end}
+use Rattle.commands.proofs.Printing.{pairs_more, pairs_none, pairs_all, pairs_room}
 use Rattle.commands.proofs.printed.put_pairs.Goals as goal
 
 pub put_pair-p-requires : goal.put_pair-p-requires

@@ -1,10 +1,9 @@
 -- The lines of a table: `put_table` meets its contract.
 -- What is left from here is one row's line and what is left behind it.
 use Prim.Native.Nat.{◌-◌}
-use native.Mathlib.Omega.{arith}
-use Rattle.csv_rows.proofs.Going.{Going, going, go_length, go_turn, go_end}
+use Rattle.csv_rows.proofs.Going.{Going}
 use Rattle.commands.specs.Table.{table_lists}
-use Rattle.commands.proofs.Printing.{lines_from, lines_more, lines_none, lines_room, lines_whole}
+use Rattle.commands.proofs.Printing.{lines_from}
 use Rattle.commands.proofs.printed.put_table.Given as goal
 
 abbrev pub invariant-loop-j : goal.invariant-loop-j

@@ -1,8 +1,5 @@
 -- A row's value: `put_value` meets its contract.
 -- A dash, or the pairs of the row's bytes.
-use mathlib.Core.Path.{ap, sym}
-use native.Mathlib.Omega.{arith}
-use lib.ListN.{length}
 use Rattle.csv_rows.proofs.Wrote.{wrote_one}
 use Rattle.commands.proofs.Printing.{none_text, some_text}
 use Rattle.commands.proofs.printed.put_value.Goals as goal

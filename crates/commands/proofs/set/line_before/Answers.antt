@@ -1,12 +1,7 @@
 -- The search back for the line that sets a register: `line_before` meets its contract.
 -- Of the lines that are left the answer is that of all.
-use mathlib.Core.Path.{◌≡◌}
-use mathlib.Core.List.{List}
-use Prim.Native.Nat.{ℕ, ◌≤◌}
 use native.Mathlib.Omega.{arith}
-use Rattle.rows.specs.Lists.{lists_of}
-use Rattle.commands.specs.Table.{line_before}
-use Rattle.commands.proofs.Search.{Sought, search_start, search_end, search_other, search_call, search_found, search_further}
+use Rattle.commands.proofs.Search.{search_start, search_end, search_other, search_call, search_found, search_further}
 use Rattle.commands.proofs.set.line_before.Goals as goal
 
 pub loop-i-init : goal.loop-i-init

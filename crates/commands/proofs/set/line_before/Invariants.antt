@@ -3,10 +3,9 @@
 use mathlib.Core.Path.{◌≡◌}
 use mathlib.Core.List.{List}
 use Prim.Native.Nat.{ℕ, ◌≤◌}
-use native.Mathlib.Omega.{arith}
 use Rattle.rows.specs.Lists.{lists_of}
 use Rattle.commands.specs.Table.{line_before}
-use Rattle.commands.proofs.Search.{Sought, search_start, search_end, search_other, search_call, search_found, search_further}
+use Rattle.commands.proofs.Search.{Sought}
 use Rattle.commands.proofs.set.line_before.Given as goal
 
 abbrev pub invariant-loop-i : goal.invariant-loop-i

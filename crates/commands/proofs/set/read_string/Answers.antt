@@ -1,7 +1,6 @@
 -- The string of a literal that is not cut: `read_string` meets its contract.
 -- By the reader's answer, which is a string or 17 where there is room for 80 bytes.
-use native.Mathlib.Omega.{arith}
-use Rattle.commands.proofs.Given.{none_read, few_bytes, cut_read, whole_read}
+use Rattle.commands.proofs.Given.{none_read, cut_read, whole_read}
 use Rattle.commands.proofs.set.read_string.Goals as goal
 
 pub returns-then-cut : goal.returns-then-cut

@@ -13,13 +13,13 @@ pub measure-size-requires : goal.measure-size-requires
 measure-size-requires c =
     let d = c in
     lines_few _ _ (sym c.if-lists_hold.true ∙ d.lists_hold.ensures)
-    (λ i. omega (arith, d.shared_slice_known-2-1.given i)) (λ i. omega (arith, d.shared_slice_known-7-1.given i))
+    (λ i. omega (arith, d.type_inv.ends i)) (λ i. omega (arith, d.type_inv.lines i))
 
 pub fill-requires : goal.fill-requires
 fill-requires c = let d = c in
     let a = d.args in
     let h = sym c.if-lists_hold.true ∙ d.lists_hold.ensures in record {
-      lines = lines_few _ _ h (λ i. omega (arith, d.shared_slice_known-2-1.given i)) (λ i. omega (arith, d.shared_slice_known-7-1.given i));
+      lines = lines_few _ _ h (λ i. omega (arith, d.type_inv.ends i)) (λ i. omega (arith, d.type_inv.lines i));
       room = bytes_room _ _ _ _ d.if-call-register.false h (c.measure-size.ensures a.addresses.now)
           (table_lists a.bytes.now a.rows.now a.calls.now) c.room_no-n.ensures c.if-n-eq0.true;
     }

@@ -1,10 +1,8 @@
 -- `fill` meets its contract.
 -- The invariant `Storing`: to store what is left is to store all.
-use mathlib.Core.Path.{refl, sym}
-use Prim.Native.Nat.{◌-◌}
+use mathlib.Core.Path.{refl}
 use native.Mathlib.Omega.{arith}
-use Rattle.rows.specs.Lists.{lists_of}
-use Rattle.commands.proofs.Turns.{Going, Storing, left_from, whole, going_start, going_on, storing_start, storing_end, call_room, storing_call, storing_other, same_lengths}
+use Rattle.commands.proofs.Turns.{going_start, going_on, storing_start, storing_end, call_room, storing_call, storing_other}
 use Rattle.commands.proofs.table.fill.Goals as goal
 
 pub loop-i-init : goal.loop-i-init
@@ -24,7 +22,7 @@ loop-i-preserved-then-calls_to c =
     let h = p.loop-i-test.true in
     let d = p in
     let a = d.args in (
-      going_on d.loop-i.invariant.0 h _ _ (omega arith) (omega (arith, p.put_row-x.ensures.end, f.ensures.size.0)) f.auto.1.1.1.1.1.1.1.1.0,
+      going_on d.loop-i.invariant.0 h _ _ (omega arith) (omega (arith, p.put_row-x.ensures.end, f.ensures.size.0)) f.auto.out,
       storing_call _ _ _ _ _ h (e a.addresses.now a.places.now) p.if-calls_to.true d.loop-i.invariant.1 (f.ensures.size.1 a.addresses.now)
           _ _ _ (f.ensures.bytes a.addresses.now) p.put_row-x.ensures.end p.put_row-x.ensures.bytes p.put_row-x.ensures.row c.u64_in.ensures.0 c.store_u64.ensures,
     )

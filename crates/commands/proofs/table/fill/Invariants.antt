@@ -1,10 +1,8 @@
 -- `fill` meets its contract.
 -- The invariant `Storing`: to store what is left is to store all.
-use mathlib.Core.Path.{refl, sym}
 use Prim.Native.Nat.{◌-◌}
-use native.Mathlib.Omega.{arith}
 use Rattle.rows.specs.Lists.{lists_of}
-use Rattle.commands.proofs.Turns.{Going, Storing, left_from, whole, going_start, going_on, storing_start, storing_end, call_room, storing_call, storing_other, same_lengths}
+use Rattle.commands.proofs.Turns.{Going, Storing, left_from, whole}
 use Rattle.commands.proofs.table.fill.Given as goal
 
 abbrev pub invariant-loop-i : goal.invariant-loop-i

@@ -1,11 +1,8 @@
 -- `measure` meets its contract.
 -- The invariant `Counted`: what is counted up to here and what is left make the whole.
-use mathlib.Core.Path.{refl, sym}
-use mathlib.Core.List.{List}
-use Prim.Native.Nat.{ℕ, ◌-◌}
+use mathlib.Core.Path.{refl}
 use native.Mathlib.Omega.{arith}
-use Rattle.rows.specs.Lists.{lists_of}
-use Rattle.commands.proofs.Turns.{Going, Counted, left_from, whole, going_start, going_on, counted_start, counted_end, counted_call, counted_other}
+use Rattle.commands.proofs.Turns.{going_on, counted_end, counted_call, counted_other}
 use Rattle.commands.proofs.table.measure.Goals as goal
 
 pub loop-i-preserved-then-calls_to : goal.loop-i-preserved-then-calls_to
@@ -13,7 +10,7 @@ loop-i-preserved-then-calls_to c =
     let d = c in
     let h = c.loop-i-test.true in
     let f = c.bytes_for-c in (
-      going_on d.loop-i.invariant.0 h _ _ (omega arith) (omega (arith, c.bytes_of-x.ensures, f.ensures.size.0)) f.auto.1.1.1.1.1.1.1.1.0,
+      going_on d.loop-i.invariant.0 h _ _ (omega arith) (omega (arith, c.bytes_of-x.ensures, f.ensures.size.0)) f.auto.out,
       λ a. counted_call _ _ _ _ _ h (c.calls_to.ensures a d.args.places.now) c.if-calls_to.true _ _ (f.ensures.size.1 a) c.bytes_of-x.ensures (d.loop-i.invariant.1 a),
     )
 

@@ -1,11 +1,9 @@
 -- `measure` meets its contract.
 -- The invariant `Counted`: what is counted up to here and what is left make the whole.
-use mathlib.Core.Path.{refl, sym}
 use mathlib.Core.List.{List}
 use Prim.Native.Nat.{ℕ, ◌-◌}
-use native.Mathlib.Omega.{arith}
 use Rattle.rows.specs.Lists.{lists_of}
-use Rattle.commands.proofs.Turns.{Going, Counted, left_from, whole, going_start, going_on, counted_start, counted_end, counted_call, counted_other}
+use Rattle.commands.proofs.Turns.{Going, Counted, left_from, whole}
 use Rattle.commands.proofs.table.measure.Given as goal
 
 abbrev pub invariant-loop-i : goal.invariant-loop-i
