@@ -27,6 +27,7 @@ in_map f (Memᴰ.head e) = Memᴰ.head (ap f e)
 in_map f (Memᴰ.tail m) = Memᴰ.tail (in_map f m)
 
 in_before : {e : Ending} {r : List Ending} {es : List Ending} (rests : List (List Ending)) → Memᴰ e es → Memᴰ r rests → Memᴰ (e ∷ r) (before es rests)
+in_before {e = e} {r = r} {es = []} rests x5 m = elim x5 [ ]
 in_before {e} {r} {es = x ∷ es} rests (Memᴰ.head q) m =
     Memᴰ.append_left {a = e ∷ r} {s = map (λ l. x ∷ l) rests} (before es rests)
     (Memᴰ.cast (ap (λ (y : Ending). y ∷ r) q) (in_map (λ l. x ∷ l) m))

@@ -1,11 +1,10 @@
 -- `fields::put_body` meets its contract.
 -- By the ending's case: the stores into 92 zeros, computed, are the instruction's fields.
-use mathlib.Core.Path.{◌≡◌, refl, sym, ap, ◌∙◌}
-use mathlib.Core.Logic.{⊎_elim}
+use mathlib.Core.Path.{◌≡◌, refl, ◌∙◌}
 use mathlib.Core.List.{List, [], ◌∷◌}
 use Prim.Native.Nat.{ℕ}
 use native.Mathlib.Omega.{arith}
-use lib.ListN.{length, set, replicate}
+use lib.ListN.{set, replicate}
 use borrow.Rule.Slice.PartMut.{mid_of, put_mid}
 use Rattle.lists.specs.Little.{little}
 use Rattle.lists.specs.Put.{put}
@@ -13,13 +12,8 @@ use Rattle.lists.specs.PutLaws.{put_rest}
 use Rattle.routines.specs.declared.ending.Ending.{Ending}
 use Rattle.routines.specs.declared.ending.Ending.TheVariants.{Ret, Fall, Jmp, Jne}
 use Rattle.routines.specs.Written.{start, body_of}
-use Rattle.routines.proofs.Inside.{jmp_inside, jne_inside}
-use Rattle.routines.proofs.Sizes.{length_body}
-use Rattle.routines.proofs.fields.put_body.Reads as reads
-use Rattle.routines.proofs.fields.put_body.Lts as lts
-use Rattle.lists.proofs.stores.put_bytes.Reads as put-bytes-reads
-use Rattle.routines.proofs.fields.put_branch.Reads as put-branch-reads
 use Rattle.routines.proofs.fields.put_body.Goals as goal
+use Rattle.routines.proofs.fields.put_body.Goals.{in-Ret, in-Fall, in-Jmp, in-Jne}
 
 -- the body before the ending decides
 abbrev fresh : List ℕ
@@ -45,14 +39,12 @@ of-jne : (e : Ending) (t : ℕ) (b m r : List ℕ) → e ≡ Jne t → m ≡ bra
 unfolding little put
 of-jne e t b m r p f g q = rw (p, q, g, f)
 
-filled : (c : lts.At-match-branch (put-branch-reads.Asked, put-branch-reads.Learnt, put-bytes-reads.Asked, put-bytes-reads.Learnt) reads.Pre reads.Post)
-    → c.match.body ≡ body_of c.before.before.args.e
-filled c =
-    ⊎_elim (λ w. of-ret _ _ w.1.given.1 w.2)
-    (⊎_elim (λ w. of-fall _ _ w.1.given.1 w.2)
-    (⊎_elim (λ w. of-jmp _ _ _ w.1.given.1 (w.6 ∙ w.4.ensures))
-    (λ w. of-jne _ _ _ _ _ w.1.given.1 w.4.ensures w.8.ensures.1 w.10)))
-    c.match.branch
-
 pub returns : goal.returns
-returns c = record { end = refl; bytes = put_rest _ _ _ _ _ (omega arith) (rw (filled c) at c.put_bytes-2.ensures.text) }
+returns c =
+    let filled : c.match-e.body ≡ body_of c.args.e = elim c.match-e.branch [
+      | in-Ret w ↦ of-ret _ _ w.in-Ret.is w.body-is
+      | in-Fall w ↦ of-fall _ _ w.in-Fall.is w.body-is
+      | in-Jmp w ↦ of-jmp _ _ _ w.in-Jmp.is (w.body-is ∙ w.put_branch.ensures)
+      | in-Jne w ↦ of-jne _ _ _ _ _ w.in-Jne.is w.put_branch-in-Jne.ensures w.put_bytes.ensures.text w.body-is
+    ] in
+    record { end = refl; bytes = put_rest _ _ _ _ _ (omega arith) (rw filled at c.put_bytes-2.ensures.text) }

@@ -8,7 +8,6 @@ use native.Mathlib.Omega.{arith}
 use Rattle.lists.specs.Little.{little}
 use Rattle.lists.specs.Put.{put}
 use Rattle.lists.specs.PutLaws.{put_none, put_append}
-use Rattle.routines.proofs.Inside.{jmp_inside, jne_inside}
 use Rattle.routines.proofs.fields.put_targets.Goals as goal
 
 one : (at r x y : ℕ) (l m : List ℕ) → x ≡ y → r ≡ at + 8 → m ≡ put at (little 8 x) l → (r ≡ at + 8) × (m ≡ put at (little 8 y ++ []) l)
@@ -26,14 +25,19 @@ returns-in-Ret c = rw c.in-Ret.is (record { end = sym (add-zero _); bytes = sym 
 
 pub returns-in-Fall : goal.returns-in-Fall
 unfolding little
-returns-in-Fall c = rw c.in-Fall.is (one _ _ _ _ _ _ c.start.ensures c.put_u64.ensures.end c.put_u64.ensures.bytes)
+returns-in-Fall c =
+    let told = one _ _ _ _ _ _ c.start.ensures c.put_u64.ensures.end c.put_u64.ensures.bytes in
+    rw c.in-Fall.is (record { end = told.0; bytes = told.1 })
 
 pub returns-in-Jmp : goal.returns-in-Jmp
 unfolding little
-returns-in-Jmp c = rw c.in-Jmp.is (one _ _ _ _ _ _ c.start-in-Jmp.ensures c.put_u64-in-Jmp.ensures.end c.put_u64-in-Jmp.ensures.bytes)
+returns-in-Jmp c =
+    let told = one _ _ _ _ _ _ c.start-in-Jmp.ensures c.put_u64-in-Jmp.ensures.end c.put_u64-in-Jmp.ensures.bytes in
+    rw c.in-Jmp.is (record { end = told.0; bytes = told.1 })
 
 pub returns-in-Jne : goal.returns-in-Jne
 unfolding little
-returns-in-Jne c = rw c.in-Jne.is
-    (two _ _ _ _ _ _ _ _ _ _ c.start-in-Jne.ensures c.put_u64-next.ensures.end c.put_u64-next.ensures.bytes
-    c.start-in-Jne-2.ensures c.put_u64-in-Jne.ensures.end c.put_u64-in-Jne.ensures.bytes)
+returns-in-Jne c =
+    let told = two _ _ _ _ _ _ _ _ _ _ c.start-in-Jne.ensures c.put_u64-next.ensures.end c.put_u64-next.ensures.bytes
+    c.start-in-Jne-2.ensures c.put_u64-in-Jne.ensures.end c.put_u64-in-Jne.ensures.bytes in
+    rw c.in-Jne.is (record { end = told.0; bytes = told.1 })

@@ -1,20 +1,18 @@
 -- `routine::put_array` meets its contract.
 -- The invariant: to store the entries that are left where the loop stands is to store all of them where it began.
-use mathlib.Core.Path.{◌≡◌, refl, sym, ap, ◌∙◌}
-use mathlib.Core.List.{List, [], ◌++◌}
-use Prim.Native.Nat.{ℕ, ◌+◌, ◌*◌, ◌-◌, ◌≤◌, ◌<◌}
-use native.Mathlib.Numerals.{add-one}
-use native.Mathlib.Omega.{arith}
-use lib.ListN.{length, get_or, drop, drop_of_length-le, length-append}
-use lib.Seq.{drop-cons}
+use mathlib.Core.Path.{◌≡◌}
+use mathlib.Core.List.{List}
+use Prim.Native.Nat.{ℕ, ◌+◌, ◌*◌, ◌-◌, ◌≤◌}
+use lib.ListN.{length, drop}
 use Rattle.lists.specs.Put.{put}
-use Rattle.lists.specs.PutLaws.{put_length, put_none, put_append}
 use Rattle.routines.specs.declared.ending.Ending.{Ending}
-use Rattle.routines.specs.declared.ending.Ending.TheVariants.{Ret}
 use Rattle.routines.specs.Numbered.{routine_at}
 use Rattle.routines.specs.Written.{each, entry_of}
-use Rattle.routines.proofs.Sizes.{length_entry}
 use Rattle.routines.proofs.routine.put_array.Given as goal
+
+-- the entries from block j on
+abbrev pub left : ℕ → List Ending → ℕ → List ℕ
+left a r j = each (entry_of a) j (drop j r)
 
 abbrev pub invariant-loop-j : goal.invariant-loop-j
 invariant-loop-j l =

@@ -12,12 +12,6 @@ use Rattle.routines.specs.declared.ending.Ending.{Ending}
 use Rattle.routines.specs.Numbered.{routine_at}
 use Rattle.routines.specs.Written.{edge_count, each, entry_of, header_bytes, arrays, record_of}
 use Rattle.routines.proofs.Sizes.{length_header, length_record, arrays_grow}
-use Rattle.routines.proofs.routine.put_record.Reads as reads
-use Rattle.routines.proofs.routine.put_record.Lts as lts
-use Rattle.routines.proofs.ending.blocks_of.Reads as blocks-of-reads
-use Rattle.routines.proofs.routine.edges_of.Reads as edges-of-reads
-use Rattle.routines.proofs.routine.put_array.Reads as put-array-reads
-use Rattle.routines.proofs.routine.put_header.Reads as put-header-reads
 use Rattle.routines.proofs.routine.put_record.Goals as goal
 
 room : (r : List Ending) (a : ℕ) → a < 6 → 24 + length (arrays r a) + length (each (entry_of a) 0 r) ≤ length (record_of r)
@@ -36,11 +30,6 @@ unfolding record_of
 whole r a b e l o q n p k h s =
     let w : 24 ≡ 0 + length (header_bytes (length r) (edge_count 0 r)) = omega (arith, length_header (length r) (edge_count 0 r)) in
     s ∙ rw (put_append 0 (header_bytes (length r) (edge_count 0 r)) (arrays r 6) l, n, h, p, k, ← w)
-
-stored : (c : lts.After-loop (blocks-of-reads.Asked, blocks-of-reads.Learnt, edges-of-reads.Asked, edges-of-reads.Learnt, put-header-reads.Asked, put-header-reads.Learnt, put-array-reads.Asked, put-array-reads.Learnt) reads.Pre reads.Post invariant-loop decreases-loop)
-    → c.before.loop.out ≡ put 0 (record_of (routine_at c.before.before.before.before.before.before.before.before.before.args.k)) c.before.before.before.before.before.before.before.before.before.args.out.now
-stored c =
-    whole (routine_at c.before.before.before.before.before.before.before.before.before.args.k) c.before.loop.a _ _ _ _ _ (omega arith) c.before.before.before.before.before.before.blocks-of.ensures.0 c.before.before.before.before.before.edges-of.ensures.0 c.before.before.before.before.put-header.ensures.1 c.before.loop.invariant.2
 
 pub put_header-next-requires : goal.put_header-next-requires
 put_header-next-requires c = (omega arith, omega arith, omega (arith, length_record (routine_at c.args.k), c.requires.1))
@@ -61,4 +50,5 @@ loop-a-preserved c =
     (omega arith, m.0, m.1)
 
 pub returns : goal.returns
-returns c = stored c
+returns c =
+    whole (routine_at c.args.k) c.loop-a.a _ _ _ _ _ (omega arith) c.blocks_of.ensures.0 c.edges_of.ensures.0 c.put_header-next.ensures.bytes c.loop-a.invariant.2
