@@ -1,0 +1,21 @@
+-- `block_rows` meets its contract.
+-- The invariant: the running indexes, and to store the rows from here on is to store all of them.
+use mathlib.Core.Path.{◌≡◌, refl}
+use Prim.Native.Nat.{◌≤◌, ◌-◌, ◌*◌}
+use native.Mathlib.Omega.{arith}
+use Rattle.flow.specs.Rows.{block_row, block_rows}
+use Rattle.record.specs.Layout.{marks_of}
+use Rattle.record.specs.Blocks.{first_instruction, first_edge}
+use Rattle.record.proofs.Running.{instruction_more, edge_more}
+use Rattle.flow.proofs.Totals.{block_has, edges_fit}
+use Rattle.flow.proofs.Storing.{Left, left_all, left_length, left_step, left_done}
+use Rattle.flow.proofs.Row.{array, row_stored}
+use Rattle.flow.proofs.rows.block_rows.Given as goal
+
+abbrev pub invariant-loop-k : goal.invariant-loop-k
+invariant-loop-k l =
+    (l.k ≤ l.h.blocks) × (l.marks ≡ marks_of l.h l.rec) × (l.first ≡ first_instruction l.marks l.k) × (l.edge ≡ first_edge l.marks l.k)
+    × Left (block_row l.h l.rec) l.h.blocks l.initial.out (8 * l.k) l.out l.k
+
+abbrev pub decreases-loop-k : goal.decreases-loop-k
+decreases-loop-k l = l.h.blocks - l.k

@@ -1,0 +1,16 @@
+-- `edge_rows` meets its contract.
+-- The invariant: to store the rows from here on is to store all of them.
+use mathlib.Core.Path.{◌≡◌}
+use Prim.Native.Nat.{◌≤◌, ◌-◌, ◌*◌}
+use native.Mathlib.Omega.{arith}
+use Rattle.flow.specs.Rows.{edge_row, edge_rows}
+use Rattle.record.specs.Layout.{targets_of, edge_kinds_of}
+use Rattle.flow.proofs.Storing.{Left, left_all, left_length, left_step, left_done}
+use Rattle.flow.proofs.Row.{array, edge_stored}
+use Rattle.flow.proofs.rows.edge_rows.Given as goal
+
+abbrev pub invariant-loop-e : goal.invariant-loop-e
+invariant-loop-e l = (l.e ≤ l.h.edges) × (l.targets ≡ targets_of l.h l.rec) × (l.kinds ≡ edge_kinds_of l.h l.rec) × Left (edge_row l.h l.rec) l.h.edges l.initial.out (2 * l.e) l.out l.e
+
+abbrev pub decreases-loop-e : goal.decreases-loop-e
+decreases-loop-e l = l.h.edges - l.e

@@ -1,0 +1,7 @@
+-- `put_two` meets its contract.
+-- Two stores, one behind the other.
+use Rattle.flow.proofs.Storing.{put_two}
+use Rattle.flow.proofs.rows.put_two.Goals as goal
+
+pub returns : goal.returns
+returns c = put_two _ _ _ _ _ _ c.store_u16.ensures c.store_u16-2.ensures

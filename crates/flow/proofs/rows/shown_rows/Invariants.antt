@@ -1,0 +1,16 @@
+-- `shown_rows` meets its contract.
+-- The invariant: to store the rows from here on is to store all of them.
+use mathlib.Core.Path.{◌≡◌}
+use Prim.Native.Nat.{◌≤◌, ◌-◌}
+use native.Mathlib.Omega.{arith}
+use Rattle.flow.specs.Rows.{shown_row, shown_rows}
+use Rattle.record.specs.Layout.{bodies_of}
+use Rattle.flow.proofs.Storing.{Left, left_all, left_length, left_step, left_done}
+use Rattle.flow.proofs.Row.{array, shown_stored}
+use Rattle.flow.proofs.rows.shown_rows.Given as goal
+
+abbrev pub invariant-loop-i : goal.invariant-loop-i
+invariant-loop-i l = (l.i ≤ l.h.instructions) × (l.bodies ≡ bodies_of l.h l.rec) × Left (shown_row l.h l.rec) l.h.instructions l.initial.out l.i l.out l.i
+
+abbrev pub decreases-loop-i : goal.decreases-loop-i
+decreases-loop-i l = l.h.instructions - l.i
