@@ -1,0 +1,27 @@
+-- Whether a label of place k is among the lines: `label_stands` meets its contract.
+-- The invariant: what is left of the lines tells it.
+use mathlib.Core.Path.{◌≡◌, sym, ◌∙◌}
+use mathlib.Core.List.{map}
+use Prim.Native.Nat.{◌-◌, ◌≤◌}
+use native.Mathlib.Omega.{arith}
+use lib.ListN.{length, drop}
+use Rattle.line.specs.Lines.{line_in}
+use Rattle.route.specs.Assumed.{label_stands}
+use Rattle.checker.proofs.Labelled.{stands_none, stands_here, stands_later}
+use borrow.Author.Rules.{rules}
+use Rattle.checker.proofs.labels.label_stands.Goals as goal
+
+pub returns-then-what_of-place_of_line : goal.returns-then-what_of-place_of_line
+returns-then-what_of-place_of_line c =
+    let a = c.args in
+    sym (c.loop-i.invariant.1 ∙ stands_here a.k.0 a.codes.now c.loop-i.i _ _ (omega arith) c.what_of.ensures c.place_of_line.ensures c.if-what_of-place_of_line.true)
+
+pub loop-i-preserved : goal.loop-i-preserved
+loop-i-preserved c =
+    let a = c.args in
+    (search rules, c.loop-i.invariant.1 ∙ stands_later a.k.0 a.codes.now c.loop-i.i _ _ (omega arith) c.what_of.ensures c.place_of_line.ensures c.if-what_of-place_of_line.false)
+
+pub returns : goal.returns
+returns c =
+    let a = c.args in
+    sym (c.loop-i.invariant.1 ∙ stands_none a.k.0 a.codes.now c.loop-i.i (omega arith))

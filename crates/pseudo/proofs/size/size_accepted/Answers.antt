@@ -1,0 +1,21 @@
+-- `size_accepted` meets its contract.
+-- The tables and the blocks' rows are what the sizer asks for.
+use native.Mathlib.Omega.{arith}
+use Prim.Native.Nat.{◌*◌}
+use Rattle.flow.specs.Rows.{block_rows}
+use Rattle.flow.proofs.Laws.{filled}
+use Rattle.flow.proofs.Terms.{blocks_length}
+use Rattle.flow.proofs.Totals.{limits_small}
+use Rattle.pseudo.proofs.Calls.{limits, counted, rising}
+use Rattle.pseudo.proofs.size.size_accepted.Goals as goal
+
+pub block_rows-requires : goal.block_rows-requires
+block_rows-requires c = counted c.args.rec.now c.args.from c.args.to c.args.h (c.requires)
+
+pub size_range-requires : goal.size_range-requires
+size_range-requires c = let h = c.args.h in
+    let s = c.args.rec.now in
+    let yes = c.requires in
+    let b =
+    filled (block_rows h s) _ _ _ (8 * c.size.result) (8 * h.blocks) (blocks_length h s) (omega (arith, (limits_small h (limits s c.args.from c.args.to h yes)).blocks)) (omega (arith, c.size.ensures)) c.block_rows.ensures c.part_u16-blocks.ensures in
+    record { tables_value = (c.tables-made.ensures, rising s c.args.from c.args.to h yes); rows_value = c.row_table-row.ensures; blocks_value = b; accepted = yes }
