@@ -24,7 +24,7 @@ loop-i-preserved c =
     let a = c.args in
     let l = c.loop-i in
     let w = c.write_part-p in (
-      c.write_part-p.auto.1.1.1.1.1.0 ∙ c.loop-i.invariant.0,
+      c.write_part-p.auto.codes ∙ c.loop-i.invariant.0,
       omega (arith, c.loop-i-test.true),
       c.write_part-p.auto.text ∙ c.loop-i.invariant.2,
       c.write_part-p.auto.ends ∙ c.loop-i.invariant.3,
