@@ -30,8 +30,7 @@ fn put_broken(broken: &mut [u64], answer: Checked) -> u8
 
 // Whether a record's listing may be followed: answers 0, or the number of the first question before 12 that gets a no. Nothing is
 // demanded of the caller.
-#[unsafe(no_mangle)]
-pub extern "C" fn cakirotu_check(rec: &[u8], broken: &mut [u64]) -> u8
+pub fn cakirotu_check(rec: &[u8], broken: &mut [u64]) -> u8
     ensures { RecordChecked rec.now broken.old broken.new result }
 {
     put_broken(broken, check_record(rec))

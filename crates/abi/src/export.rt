@@ -8,8 +8,7 @@ use pseudo::size::size;
 
 // Lists the blocks from `from` up to `to` of a record: answers 0, or the number of the first question that gets a no. Nothing is
 // demanded of the caller.
-#[unsafe(no_mangle)]
-pub extern "C" fn cakirotu_list(
+pub fn cakirotu_list(
     rec: &[u8],
     from: usize,
     to: usize,
@@ -35,8 +34,7 @@ pub extern "C" fn cakirotu_list(
 
 // The sizes and the looks of the listing of the blocks from `from` up to `to`: answers 0, or the number of the first question before 12 that gets a
 // no. Nothing is demanded of the caller.
-#[unsafe(no_mangle)]
-pub extern "C" fn cakirotu_size(rec: &[u8], from: usize, to: usize, sizes: &mut [u64]) -> u8
+pub fn cakirotu_size(rec: &[u8], from: usize, to: usize, sizes: &mut [u64]) -> u8
     ensures { Sized rec.now from to sizes.old sizes.new result }
 {
     put_answered(sizes, size(rec, from, to))

@@ -41,8 +41,7 @@ fn put_written(size: &mut [u64], answer: Written) -> u8
 }
 
 // Writes lists of these sizes as a file of rows: answers 0, 16 or 12. Nothing is demanded of the caller.
-#[unsafe(no_mangle)]
-pub extern "C" fn cakirotu_write_rows(
+pub fn cakirotu_write_rows(
     text: &[u8],
     ends: &[u32],
     kinds: &[u8],
@@ -64,8 +63,7 @@ pub extern "C" fn cakirotu_write_rows(
 }
 
 // Reads a file of rows into lists: answers 0, 16 or 12 to 14. Nothing is demanded of the caller.
-#[unsafe(no_mangle)]
-pub extern "C" fn cakirotu_read_rows(
+pub fn cakirotu_read_rows(
     file: &[u8],
     text: &mut [u8],
     ends: &mut [u32],

@@ -6,8 +6,7 @@ use crate::store::put_stored;
 use routines::routine::routine;
 
 // Small routine k as a record: answers 0, 18 or 12. Nothing is demanded of the caller.
-#[unsafe(no_mangle)]
-pub extern "C" fn cakirotu_routine(k: usize, out: &mut [u8], size: &mut [u64]) -> u8
+pub fn cakirotu_routine(k: usize, out: &mut [u8], size: &mut [u64]) -> u8
     ensures { BytesStored (Makes k out.old out.new) size.old size.new result }
 {
     put_stored(size, routine(k, out))

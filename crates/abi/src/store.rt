@@ -28,16 +28,14 @@ pub fn put_stored(size: &mut [u64], answer: Stored) -> u8
 }
 
 // A record with its instruction bodies by columns: answers 0, 1 to 4 or 12. Nothing is demanded of the caller.
-#[unsafe(no_mangle)]
-pub extern "C" fn cakirotu_to_columns(rec: &[u8], out: &mut [u8], size: &mut [u64]) -> u8
+pub fn cakirotu_to_columns(rec: &[u8], out: &mut [u8], size: &mut [u64]) -> u8
     ensures { BytesStored (Stores bodies body_bytes rec.now out.old out.new) size.old size.new result }
 {
     put_stored(size, to_columns(rec, out))
 }
 
 // The way back: answers 0, 1 to 4 or 12. Nothing is demanded of the caller.
-#[unsafe(no_mangle)]
-pub extern "C" fn cakirotu_from_columns(rec: &[u8], out: &mut [u8], size: &mut [u64]) -> u8
+pub fn cakirotu_from_columns(rec: &[u8], out: &mut [u8], size: &mut [u64]) -> u8
     ensures { BytesStored (Stores body_bytes bodies rec.now out.old out.new) size.old size.new result }
 {
     put_stored(size, from_columns(rec, out))

@@ -31,8 +31,7 @@ fn put_back(values: &mut [u64], answer: Back) -> u8
 }
 
 // The string of a literal token: answers 0, 17 or 12. Nothing is demanded of the caller.
-#[unsafe(no_mangle)]
-pub extern "C" fn cakirotu_read_literal(
+pub fn cakirotu_read_literal(
     kind: u8,
     text: &[u8],
     out: &mut [u8],

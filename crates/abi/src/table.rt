@@ -36,8 +36,7 @@ fn put_counts(counts: &mut [u64], answer: Tabled) -> u8
 }
 
 // The command table of lists of these sizes: answers 0, 19, 16 or 12 to 14. Nothing is demanded of the caller.
-#[unsafe(no_mangle)]
-pub extern "C" fn cakirotu_command_table(
+pub fn cakirotu_command_table(
     text: &[u8],
     ends: &[u32],
     kinds: &[u8],
