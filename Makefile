@@ -2,7 +2,7 @@
 #   make
 #   make install [DESTDIR=FOLDER] [PREFIX=/usr/local] [LIBDIR=PREFIX/lib] [PYTHONDIR=...]
 #   make uninstall, with the same words
-# The library is the libabi.a in the folder CAKIROTU_LIB if that is set; else `rt staticlib abi` makes it. docs/BINDINGS.md has more.
+# The library is the libabi.a in the folder CAKIROTU_LIB if that is set; else `tools/made abi` makes it. docs/BINDINGS.md has more.
 
 PREFIX ?= /usr/local
 LIBDIR ?= $(PREFIX)/lib
@@ -59,10 +59,10 @@ all: $(archive) $(made)/$(shared) $(command) $(foreach shell,$(shells),$(made)/c
 
 ifneq ($(CAKIROTU_LIB),)
 $(archive):
-	@echo "make: there is no $@; \`rt staticlib abi\` makes libabi.a, and CAKIROTU_LIB names its folder" >&2; exit 1
+	@echo "make: there is no $@; \`tools/made abi\` makes libabi.a, and CAKIROTU_LIB names its folder" >&2; exit 1
 else
-$(archive): crates.txt $(shell find crates -type f)
-	rt staticlib abi
+$(archive): crates.txt $(shell find crates -name out -prune -o -type f -print)
+	tools/made abi
 	touch $@
 endif
 

@@ -1,6 +1,6 @@
 //! Links Cakirotu's static library, the first of these that is named or there:
 //! - what CAKIROTU_LIB names: its folder, or an archive with any name that has the same functions,
-//! - in the repository `rt staticlib abi`'s, and no other, so that nothing older is linked there,
+//! - in the repository `tools/made abi`'s, and no other, so that nothing older is linked there,
 //! - that of the prefix in which `make install` put these sources,
 //! - that of the folder that pkg-config names.
 
@@ -8,7 +8,7 @@ use std::env;
 use std::path::{Path, PathBuf};
 use std::process::Command;
 
-/// The archive as `rt staticlib abi` names it, and as `make install` does.
+/// The archive as `tools/made abi` names it, and as `make install` does.
 const NAMES: [&str; 2] = ["libabi.a", "libcakirotu.a"];
 
 fn main() {
@@ -22,7 +22,7 @@ fn main() {
     let archive = archive();
     println!("cargo:rerun-if-changed={}", archive.display());
     if !archive.is_file() {
-        stop(&format!("there is no {}; `rt staticlib abi` makes it, and CAKIROTU_LIB names its folder", archive.display()));
+        stop(&format!("there is no {}; `tools/made abi` makes it, and CAKIROTU_LIB names its folder", archive.display()));
     }
     println!("cargo:rustc-link-search=native={}", archive.parent().unwrap().display());
     println!("cargo:rustc-link-lib=static:+verbatim={}", archive.file_name().unwrap().to_str().unwrap());

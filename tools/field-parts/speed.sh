@@ -59,7 +59,7 @@ for n, path in enumerate(sys.stdin):
 time_program() {
     local from record count=0
     if [ ! -x target/bin/listing ]; then
-        echo "speed: target/bin/listing is not there (\`rt check listing\` makes it): not compared"
+        echo "speed: target/bin/listing is not there (\`tools/made listing\` makes it): not compared"
         return
     fi
     from=$(date +%s%N)
