@@ -1,6 +1,6 @@
 -- What `piece_tokens` answers and leaves is what its definition says.
 -- By what is asked for, whether the record and the instruction are accepted, and whether the lists have room; a piece has few tokens.
-use mathlib.Core.Path.{◌≡◌, refl, sym, ap, ◌∙◌}
+use mathlib.Core.Path.{◌≡◌, sym, ap, ◌∙◌}
 use mathlib.Core.Bool.{Bool, true, false, ◌&&◌}
 use mathlib.Core.List.{List, [], ◌∷◌}
 use Prim.Native.Nat.{ℕ, ◌+◌, ◌-◌, ◌*◌, ◌^◌, ◌≤◌, ◌<◌}
@@ -11,13 +11,11 @@ use lib.IntN.{nat_abs}
 use lib.ListN.{length, take}
 use Rattle.lists.specs.Choice.{pick}
 use Rattle.lists.specs.Every.{both_yes}
-use Rattle.lists.specs.Put.{put}
 use Rattle.tokens.specs.Token.{Token}
-use Rattle.tokens.specs.Listing.{text_of, all, listing, bytes_of, pushes_of}
+use Rattle.tokens.specs.Listing.{all, listing, bytes_of, pushes_of}
 use Rattle.tokens.proofs.ListingLaws.{all_bytes, all_count, ends_length, kinds_as_ends, lines_length}
 use Rattle.codes.specs.Code.{all_in_table, decode}
 use Rattle.codes.specs.Coded.{bytes_in, tokens_in, count_in, codes_in, Coded, Started, Ended}
-use Rattle.codes.specs.Lines.{of_lines}
 use Rattle.codes.proofs.CodedLines.{line_coded, count_few, read_back, within_back, started_line}
 use Rattle.writer.specs.Written.{page, start, Listed, Ready}
 use Rattle.writer.specs.declared.write.Cursor.{Cursor}

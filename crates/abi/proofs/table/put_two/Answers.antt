@@ -1,0 +1,7 @@
+-- `put_two` meets its contract.
+-- Two stores, one behind the other.
+use Rattle.abi.proofs.Tables.{put_two}
+use Rattle.abi.proofs.table.put_two.Goals as goal
+
+pub returns : goal.returns
+returns c = put_two _ _ _ _ _ c.store_u64.ensures c.store_u64-2.ensures
