@@ -1,21 +1,24 @@
 // Prints the record whose instruction bodies are read by columns from standard input, or `no` and a number.
 #![tactic(auto)]
 
-use libc::{STDERR_FILENO, STDOUT_FILENO};
 use lists::parts::part;
 use stdio::input::{bytes_read, read_input};
 use store::put_by_bodies;
 
 // Reads at most 65,537 bytes, one more than a record may have. No bytes are no record: where the input cannot be read, question 1 gets a no.
-fn main() {
+fn main(rt: HostRuntime) {
     let mut rec = [0u8; 65537];
-    let n = bytes_read(read_input(&mut rec), 0, b"from_columns");
+    let n = bytes_read(
+        read_input(&mut rt.stdin(), &mut rec),
+        0,
+        b"from_columns",
+        &rt.stderr(),
+    );
     let mut out = [0u8; 65536];
     let m = put_by_bodies(part(&rec, 0, n), &mut out);
-    if !io::write_all(STDOUT_FILENO, part(&out, 0, m)) {
-        io::write_all(
-            STDERR_FILENO,
-            b"from_columns: standard output cannot be written\n",
-        );
+    if rt.write_all(part(&out, 0, m)).is_err() {
+        let _ = rt
+            .stderr()
+            .write_all(b"from_columns: standard output cannot be written\n");
     }
 }

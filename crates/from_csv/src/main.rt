@@ -9,7 +9,6 @@ ghost use Rattle.page.specs.Page.{refusal};
 ghost use Rattle.from_csv.specs.Output.{part_count, page_part, Prints};
 
 use csv_rows::reading::read_rows;
-use libc::{STDERR_FILENO, STDOUT_FILENO};
 use lists::parts::{part, part_u16, part_u32, part_u64};
 use page::number::put_refusal;
 use page::page::{put_count, put_lines};
@@ -126,9 +125,14 @@ fn answer(rows: &[u8], p: usize, out: &mut [u8]) -> usize
 }
 
 // Reads at most 262,145 bytes, one more than a file of rows may have.
-fn main() {
+fn main(rt: HostRuntime) {
     let mut rows = [0u8; 262145];
-    let n = bytes_read(read_input(&mut rows), 262145, b"from_csv");
+    let n = bytes_read(
+        read_input(&mut rt.stdin(), &mut rows),
+        262145,
+        b"from_csv",
+        &rt.stderr(),
+    );
     let mut out = [0u8; 1318156];
     let mut p = 0;
     while p < 11 {
@@ -136,11 +140,10 @@ fn main() {
         if m == 0 {
             return;
         }
-        if !io::write_all(STDOUT_FILENO, part(&out, 0, m)) {
-            io::write_all(
-                STDERR_FILENO,
-                b"from_csv: standard output cannot be written\n",
-            );
+        if rt.write_all(part(&out, 0, m)).is_err() {
+            let _ = rt
+                .stderr()
+                .write_all(b"from_csv: standard output cannot be written\n");
             return;
         }
         p += 1;

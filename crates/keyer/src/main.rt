@@ -10,7 +10,6 @@ ghost use Rattle.keyer.specs.Parts.{line_size, commands_text, PrintsTable};
 use commands::printed::put_table;
 use commands::table::{Tabled, command_table};
 use csv_rows::reading::read_rows;
-use libc::{STDERR_FILENO, STDOUT_FILENO};
 use lists::parts::{part, part_u64};
 use lists::reads::from;
 use page::number::put_refusal;
@@ -144,12 +143,19 @@ fn answer(input: &[u8], out: &mut [u8]) -> usize
 }
 
 // Reads at most 65,537 bytes, one more than an input may have.
-fn main() {
+fn main(rt: HostRuntime) {
     let mut input = [0u8; 65537];
-    let n = bytes_read(read_input(&mut input), 65537, b"keyer");
+    let n = bytes_read(
+        read_input(&mut rt.stdin(), &mut input),
+        65537,
+        b"keyer",
+        &rt.stderr(),
+    );
     let mut out = [0u8; 972058];
     let m = answer(part(&input, 0, n), &mut out);
-    if !io::write_all(STDOUT_FILENO, part(&out, 0, m)) {
-        io::write_all(STDERR_FILENO, b"keyer: standard output cannot be written\n");
+    if rt.write_all(part(&out, 0, m)).is_err() {
+        let _ = rt
+            .stderr()
+            .write_all(b"keyer: standard output cannot be written\n");
     }
 }

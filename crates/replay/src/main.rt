@@ -1,13 +1,14 @@
 // Replays stored calls: a corpus of records with the Rust's answers, read from standard input. docs/COMPARISON.md has its format.
 #![tactic(auto)]
 
-ghost use Rattle.std.specs.Prelude.{◌≡◌, ◌<◌};
+ghost use Rattle.std.specs.Prelude.{◌≡◌, ◌<◌, ◌≤◌, length};
 ghost use Rattle.replay.specs.Sum.{turn, sum_from, wide_from};
 
 use lists::parts::part;
 use lists::reads::{from as part_from, u32_at, u64_at, within};
 use pseudo::call::list;
 use rows::answer::Answer;
+use std::io::Read;
 
 // One number more in a sum.
 fn next(h: u64, x: u64) -> u64
@@ -197,13 +198,13 @@ fn differs(case: &[u8]) -> u64
     if replay_case(case) { 0 } else { 1 }
 }
 
-fn show(n: u64, what: &[u8]) {
-    io::print_decimal(1, n);
-    io::write_all(1, what);
+fn show(rt: &impl Print, n: u64, what: &[u8]) {
+    let _ = rt.print(n);
+    let _ = rt.write_all(what);
 }
 
 // Each case in turn; a case begins where the record of the one before it ends.
-fn replay_all(corpus: &[u8]) {
+fn replay_all(rt: &impl Print, corpus: &[u8]) {
     let count = u32_at(corpus, 0) as u64;
     let mut at: usize = 4;
     let mut differ: u64 = 0;
@@ -214,12 +215,26 @@ fn replay_all(corpus: &[u8]) {
         at = within(at, 1000000) + 120 + field(case, 0);
         n += 1;
     }
-    show(count, b" replayed, ");
-    show(differ, b" differ\n");
+    show(rt, count, b" replayed, ");
+    show(rt, differ, b" differ\n");
 }
 
-fn main() {
+// Reads until the list is full, the input ends or a read fails; answers how many bytes that is.
+fn read_full(from: &mut impl Read, list: &mut [u8]) -> usize
+    ensures { result ≤ length list.old }
+{
+    let mut n = 0;
+    while n < list.len() {
+        match from.read(&mut list[n..]) {
+            Ok(0) | Err(_) => return n,
+            Ok(more) => n += more,
+        }
+    }
+    n
+}
+
+fn main(rt: HostRuntime) {
     let mut space = [0u8; 400000];
-    let n = io::read_full(0, &mut space);
-    replay_all(part(&space, 0, n));
+    let n = read_full(&mut rt.stdin(), &mut space);
+    replay_all(&rt, part(&space, 0, n));
 }

@@ -4,7 +4,6 @@
 ghost use Rattle.std.specs.Prelude.{◌≡◌, true, false, ℕ, ◌≤◌, ◌<◌, length, take};
 ghost use Rattle.routine.specs.Output.{Says, Prints};
 
-use libc::{STDERR_FILENO, STDOUT_FILENO};
 use lists::parts::part;
 use lists::reads::same;
 use lists::stores::store;
@@ -48,15 +47,19 @@ fn answer(s: &[u8], out: &mut [u8]) -> usize
 }
 
 // Reads at most 16 bytes, more than any number below 276 has. What cannot be read is no number.
-fn main() {
+fn main(rt: HostRuntime) {
     let mut text = [0u8; 16];
-    let n = bytes_read(read_input(&mut text), 0, b"routine");
+    let n = bytes_read(
+        read_input(&mut rt.stdin(), &mut text),
+        0,
+        b"routine",
+        &rt.stderr(),
+    );
     let mut out = [0u8; 405];
     let m = answer(part(&text, 0, n), &mut out);
-    if !io::write_all(STDOUT_FILENO, part(&out, 0, m)) {
-        io::write_all(
-            STDERR_FILENO,
-            b"routine: standard output cannot be written\n",
-        );
+    if rt.write_all(part(&out, 0, m)).is_err() {
+        let _ = rt
+            .stderr()
+            .write_all(b"routine: standard output cannot be written\n");
     }
 }

@@ -5,7 +5,6 @@ ghost use Rattle.std.specs.Prelude.{◌≤◌, length, take};
 ghost use Rattle.to_csv.specs.Output.{PrintsRows};
 
 use csv_rows::writing::{Written, write_rows};
-use libc::{STDERR_FILENO, STDOUT_FILENO};
 use lists::parts::part;
 use page::number::put_refusal;
 use pseudo::call::list;
@@ -53,15 +52,19 @@ fn answer(rec: &[u8], out: &mut [u8]) -> usize
 }
 
 // Reads at most 65,537 bytes, one more than a record may have. No bytes are no record: where the input cannot be read, question 1 gets a no.
-fn main() {
+fn main(rt: HostRuntime) {
     let mut rec = [0u8; 65537];
-    let n = bytes_read(read_input(&mut rec), 0, b"to_csv");
+    let n = bytes_read(
+        read_input(&mut rt.stdin(), &mut rec),
+        0,
+        b"to_csv",
+        &rt.stderr(),
+    );
     let mut out = [0u8; 262144];
     let m = answer(part(&rec, 0, n), &mut out);
-    if !io::write_all(STDOUT_FILENO, part(&out, 0, m)) {
-        io::write_all(
-            STDERR_FILENO,
-            b"to_csv: standard output cannot be written\n",
-        );
+    if rt.write_all(part(&out, 0, m)).is_err() {
+        let _ = rt
+            .stderr()
+            .write_all(b"to_csv: standard output cannot be written\n");
     }
 }

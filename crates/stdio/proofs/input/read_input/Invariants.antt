@@ -6,7 +6,7 @@ use lib.ListN.{length}
 use Rattle.stdio.proofs.input.read_input.Given as goal
 
 abbrev pub invariant-loop-n : goal.invariant-loop-n
-invariant-loop-n l = (length l.list ≡ length l.initial.list) × (l.n ≤ length l.list)
+invariant-loop-n g l = (length l.list ≡ length l.initial.list) × (l.n ≤ length l.list)
 
 abbrev pub decreases-loop-n : goal.decreases-loop-n
-decreases-loop-n l = length l.list - l.n
+decreases-loop-n g l = length l.list - l.n
