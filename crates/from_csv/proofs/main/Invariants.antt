@@ -1,13 +1,12 @@
 -- `main` is safe and ends.
 -- Eleven parts at most, and each is told a list of its own length.
 use mathlib.Core.Path.{◌≡◌}
-use Prim.Native.Nat.{ℕ, ◌-◌}
-use native.Mathlib.Omega.{arith}
-use lib.ListN.{length, length-replicate}
+use Prim.Native.Nat.{◌-◌}
+use lib.ListN.{length}
 use Rattle.from_csv.proofs.main.Given as goal
 
 abbrev pub invariant-loop-p : goal.invariant-loop-p
-invariant-loop-p l = length l.p ≡ 1318156
+invariant-loop-p l = length l.out ≡ 1318156
 
 abbrev pub decreases-loop-p : goal.decreases-loop-p
-decreases-loop-p l = 11 - p
+decreases-loop-p l = 11 - l.p

@@ -1,6 +1,6 @@
 -- `put_refused` meets its contract.
 -- By whether it is part 0.
-use Rattle.from_csv.proofs.Parts.{first_refused, later_refused}
+use Rattle.from_csv.proofs.Parts.{later_refused}
 use Rattle.from_csv.proofs.put_refused.Goals as goal
 
 pub returns : goal.returns
