@@ -1,14 +1,12 @@
 -- What the program prints is what it promises.
 -- The least number that the text says is the only one; 276, if it says none, is refused.
-use mathlib.Core.Path.{◌≡◌, refl, sym, ap, subst, ◌∙◌}
+use mathlib.Core.Path.{◌≡◌, refl, subst, ◌∙◌}
 use mathlib.Core.List.{List}
 use Prim.Native.Nat.{ℕ, ◌≤◌, ◌<◌}
 use native.Mathlib.Decide.{dec_le}
 use native.Mathlib.Omega.{arith}
 use borrow.Author.Tests.{lt-ltb, le-leb}
-use lib.ListN.{length, take}
-use Rattle.lists.specs.Stored.{stored_for, left_in}
-use Rattle.lists.specs.Put.{put}
+use lib.ListN.{length}
 use Rattle.lists.specs.declared.stored.Stored.{Stored}
 use Rattle.page.specs.Page.{refusal, stored_output}
 use Rattle.page.proofs.Pieces.{stands_whole}
