@@ -1,6 +1,6 @@
 // A program's input.
 ghost use Rattle.std.specs.Prelude.{◌≡◌, ◌≤◌, length};
-ghost use Rattle.stdio.specs.Input.{bytes_read};
+ghost use Rattle.stdio.specs.Input.{bytes_read, HasRead};
 
 use std::io::Read;
 
@@ -11,9 +11,10 @@ pub enum Input {
     Failed,
 }
 
-// Reads until the list is full or the input ends.
-pub fn read_input(from: &mut impl Read, list: &mut [u8]) -> Input
-    ensures { bytes_read result 0 ≤ length list.old }
+// Reads until the list is full or the input ends: the list then begins with the bytes that came.
+pub fn read_input<R: Read>(from: &mut R, list: &mut [u8]) -> Input
+    ensures count { bytes_read result 0 ≤ length list.old }
+    ensures bytes { HasRead result (R.remaining from.old) (R.remaining from.new) list.new }
 {
     let mut n = 0;
     while n < list.len() {
