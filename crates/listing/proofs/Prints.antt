@@ -1,6 +1,6 @@
 -- The program prints a page or a number, and keeps what a program promises.
 -- The fifth byte tells a page from `no 14`.
-use mathlib.Core.Path.{◌≡◌, refl, sym, ap, ◌∙◌}
+use mathlib.Core.Path.{◌≡◌, ap}
 use mathlib.Core.List.{List}
 use Prim.Native.Nat.{ℕ}
 use native.Mathlib.Omega.{arith}
