@@ -3,7 +3,7 @@
 use mathlib.Core.Path.{◌≡◌, refl, sym, ap, ◌∙◌}
 use mathlib.Core.Bool.{Bool, true, false, true≢false}
 use mathlib.Core.List.{List, [], ◌∷◌, ◌++◌}
-use Prim.Native.Nat.{ℕ, ◌+◌, ◌≤◌, ◌<◌}
+use Prim.Native.Nat.{ℕ, ◌≤◌}
 use native.Mathlib.Omega.{arith}
 use lib.ListN.{length, take, drop, get_or, length-append}
 use lib.Seq.{take-append_seam}
@@ -30,7 +30,7 @@ use Rattle.pseudo.specs.Listed.{record_lists}
 use Rattle.pseudo.specs.Called.{Called}
 use Rattle.pseudo.specs.Promise.{Promise}
 use Rattle.page.specs.Page.{numbered, refusal}
-use Rattle.program.specs.Output.{program_no, whole_lists, output_text}
+use Rattle.program.specs.Output.{whole_lists, output_text}
 use Rattle.program.proofs.Lent.{lent, no_output, refused_number, listed_output, cut_listing}
 use Rattle.program.proofs.Prints.{prints}
 use Rattle.to_csv.specs.Output.{rows_of, file_of, PrintsRows}
