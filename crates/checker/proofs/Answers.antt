@@ -1,11 +1,11 @@
 -- What the checker answers: the number of a question that got a no, or of the assumption that an accepted record breaks first.
 -- By what the questions answered, and whether the record breaks an assumption.
 use mathlib.Core.Path.{◌≡◌, refl, sym, ap, ◌∙◌}
-use mathlib.Core.Bool.{Bool, true, false, not}
+use mathlib.Core.Bool.{true}
 use mathlib.Core.List.{List}
 use Prim.Native.Nat.{ℕ, zero, suc}
 use native.Mathlib.Omega.{arith}
-use borrow.Author.Tests.{not-true, not-false, le-leb}
+use borrow.Author.Tests.{le-leb}
 use lib.Dec.{leb}
 use Rattle.record.specs.declared.header.Header.{Header}
 use Rattle.record.specs.declared.asked.Asked.{Asked}
@@ -16,13 +16,6 @@ use Rattle.checker.specs.Broken.{first_broken}
 use Rattle.checker.specs.Called.{Accepted, Checks}
 use Rattle.checker.specs.declared.check.Checked.TheVariants.{Follows, Broken, No}
 use Rattle.checker.proofs.Meets.{met}
-
--- ---- a test that was read, by the arm that was taken
-pub yes_of : {r q : Bool} → r ≡ q → not r ≡ false → q ≡ true
-yes_of {r} p e = sym p ∙ not-false r e
-
-pub no_of : {r q : Bool} → r ≡ q → not r ≡ true → q ≡ false
-no_of {r} p e = sym p ∙ not-true r e
 
 -- ---- the stages
 pub some-blocks : (n : ℕ) → (n ≡ 0 → ⊥) → leb 1 n ≡ true

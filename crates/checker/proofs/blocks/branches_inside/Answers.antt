@@ -1,9 +1,5 @@
 -- Whether each conditional branch goes to a block: `branches_inside` meets its contract.
 -- The invariant: so far none breaks it, or `ok` is false.
-use mathlib.Core.Path.{◌≡◌}
-use Prim.Native.Nat.{◌-◌, ◌≤◌}
-use native.Mathlib.Omega.{arith}
-use Rattle.lists.specs.Choice.{all_below}
 use Rattle.lists.specs.Below.{all_more}
 use Rattle.checker.specs.Rows.{branch_inside}
 use borrow.Author.Rules.{rules}

@@ -2,9 +2,7 @@
 -- The invariant: so far none breaks it, or `ok` is false.
 use mathlib.Core.Path.{◌≡◌}
 use Prim.Native.Nat.{◌-◌, ◌≤◌}
-use native.Mathlib.Omega.{arith}
 use Rattle.lists.specs.Choice.{all_below}
-use Rattle.lists.specs.Below.{all_more}
 use Rattle.checker.specs.Rows.{other_led}
 use Rattle.checker.proofs.blocks.others_led.Given as goal
 

@@ -1,14 +1,8 @@
 -- Whether no atlas entry stands at a block's start: `starts_unnamed` meets its contract.
 -- The invariant: so far none breaks it, or `ok` is false.
 use mathlib.Core.Path.{◌≡◌}
-use Prim.Native.Nat.{◌-◌, ◌≤◌}
 use native.Mathlib.Omega.{arith}
-use Rattle.lists.specs.Choice.{all_below}
-use Rattle.lists.specs.Below.{all_more}
-use Rattle.record.specs.Blocks.{start_at}
-use Rattle.record.specs.Layout.{starts_of}
-use Rattle.operand.specs.Names.{entry_at}
-use Rattle.route.specs.Assumed.{is_nothing, starts_unnamed}
+use Rattle.route.specs.Assumed.{starts_unnamed}
 use Rattle.checker.proofs.blocks.starts_unnamed.Goals as goal
 
 pub returns : goal.returns

@@ -2,13 +2,11 @@
 -- The invariant: so far none breaks it, or `ok` is false.
 use mathlib.Core.Path.{◌≡◌}
 use Prim.Native.Nat.{◌-◌, ◌≤◌}
-use native.Mathlib.Omega.{arith}
 use Rattle.lists.specs.Choice.{all_below}
-use Rattle.lists.specs.Below.{all_more}
 use Rattle.record.specs.Blocks.{start_at}
 use Rattle.record.specs.Layout.{starts_of}
 use Rattle.operand.specs.Names.{entry_at}
-use Rattle.route.specs.Assumed.{is_nothing, starts_unnamed}
+use Rattle.route.specs.Assumed.{is_nothing}
 use Rattle.checker.proofs.blocks.starts_unnamed.Given as goal
 
 abbrev pub invariant-loop-k : goal.invariant-loop-k

@@ -1,7 +1,7 @@
 -- What an accepted record breaks: `check_accepted` meets its contract.
 -- By whether it breaks an assumption, over the rows, read back.
 use Rattle.checker.proofs.Planned.{counted, rows_are}
-use Rattle.checker.proofs.Answers.{checks-follows, checks-broken}
+use Rattle.checker.proofs.Answers.{checks-follows}
 use Rattle.checker.proofs.check.check_accepted.Goals as goal
 
 pub block_rows-requires : goal.block_rows-requires

@@ -2,9 +2,7 @@
 -- The invariant: the sum so far.
 use mathlib.Core.Path.{◌≡◌}
 use Prim.Native.Nat.{◌+◌, ◌-◌, ◌≤◌}
-use native.Mathlib.Omega.{arith}
 use Rattle.lists.specs.Choice.{pick, sum_below}
-use Rattle.lists.specs.Below.{sum_more}
 use Rattle.record.specs.Blocks.{edge_kind_at}
 use Rattle.checker.specs.Edges.{of_kind}
 use Rattle.checker.proofs.edges.count_of.Given as goal

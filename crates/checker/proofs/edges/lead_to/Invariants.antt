@@ -3,10 +3,8 @@
 use mathlib.Core.Path.{◌≡◌}
 use mathlib.Core.Bool.{not, ◌||◌}
 use Prim.Native.Nat.{◌+◌, ◌-◌, ◌≤◌}
-use native.Mathlib.Omega.{arith}
 use lib.Dec.{eqb}
 use Rattle.lists.specs.Choice.{all_below}
-use Rattle.lists.specs.Below.{all_more}
 use Rattle.record.specs.Blocks.{target_at, edge_kind_at}
 use Rattle.checker.specs.Edges.{of_kind}
 use Rattle.checker.proofs.edges.lead_to.Given as goal

@@ -3,10 +3,8 @@
 use mathlib.Core.Path.{◌≡◌}
 use mathlib.Core.Bool.{not, ◌&&◌}
 use Prim.Native.Nat.{◌-◌, ◌≤◌}
-use native.Mathlib.Omega.{arith}
 use lib.Dec.{eqb}
 use Rattle.lists.specs.Choice.{all_below}
-use Rattle.lists.specs.Below.{all_more}
 use Rattle.record.specs.Body.{body_at, mnemonic_of, sets_by_condition, operand_kind}
 use Rattle.checker.proofs.instructions.sets_no_branch.Given as goal
 

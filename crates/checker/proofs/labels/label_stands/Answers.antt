@@ -1,12 +1,7 @@
 -- Whether a label of place k is among the lines: `label_stands` meets its contract.
 -- The invariant: what is left of the lines tells it.
-use mathlib.Core.Path.{◌≡◌, sym, ◌∙◌}
-use mathlib.Core.List.{map}
-use Prim.Native.Nat.{◌-◌, ◌≤◌}
+use mathlib.Core.Path.{sym, ◌∙◌}
 use native.Mathlib.Omega.{arith}
-use lib.ListN.{length, drop}
-use Rattle.line.specs.Lines.{line_in}
-use Rattle.route.specs.Assumed.{label_stands}
 use Rattle.checker.proofs.Labelled.{stands_none, stands_here, stands_later}
 use borrow.Author.Rules.{rules}
 use Rattle.checker.proofs.labels.label_stands.Goals as goal

@@ -1,10 +1,7 @@
 -- Whether a text begins with another: `begins_with` meets its contract.
 -- The invariant: what is left of both tells it.
-use mathlib.Core.Path.{◌≡◌, sym, ◌∙◌}
-use Prim.Native.Nat.{◌-◌, ◌≤◌}
+use mathlib.Core.Path.{sym, ◌∙◌}
 use native.Mathlib.Omega.{arith}
-use lib.ListN.{length, drop}
-use Rattle.checker.specs.Broken.{begins}
 use Rattle.checker.proofs.Begins.{begins_short, begins_all, begins_fails, begins_goes_on}
 use borrow.Author.Rules.{rules}
 use Rattle.checker.proofs.names.begins_with.Goals as goal

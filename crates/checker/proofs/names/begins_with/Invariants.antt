@@ -1,11 +1,9 @@
 -- Whether a text begins with another: `begins_with` meets its contract.
 -- The invariant: what is left of both tells it.
-use mathlib.Core.Path.{◌≡◌, sym, ◌∙◌}
+use mathlib.Core.Path.{◌≡◌}
 use Prim.Native.Nat.{◌-◌, ◌≤◌}
-use native.Mathlib.Omega.{arith}
 use lib.ListN.{length, drop}
 use Rattle.checker.specs.Broken.{begins}
-use Rattle.checker.proofs.Begins.{begins_short, begins_all, begins_fails, begins_goes_on}
 use Rattle.checker.proofs.names.begins_with.Given as goal
 
 abbrev pub invariant-loop-i : goal.invariant-loop-i

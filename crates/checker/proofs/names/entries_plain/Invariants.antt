@@ -3,10 +3,8 @@
 use mathlib.Core.Path.{◌≡◌}
 use mathlib.Core.Bool.{not, ◌&&◌}
 use Prim.Native.Nat.{◌-◌, ◌≤◌}
-use native.Mathlib.Omega.{arith}
 use lib.Dec.{eqb}
 use Rattle.lists.specs.Choice.{all_below}
-use Rattle.lists.specs.Below.{all_more}
 use Rattle.record.specs.Atlas.{entry_kind, entry_text}
 use Rattle.checker.specs.Broken.{begins_loc}
 use Rattle.checker.proofs.names.entries_plain.Given as goal

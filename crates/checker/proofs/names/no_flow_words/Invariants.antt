@@ -3,10 +3,8 @@
 use mathlib.Core.Path.{◌≡◌}
 use mathlib.Core.Bool.{not, ◌&&◌}
 use Prim.Native.Nat.{◌-◌, ◌≤◌}
-use native.Mathlib.Omega.{arith}
 use lib.Dec.{eqb}
 use Rattle.lists.specs.Choice.{all_below}
-use Rattle.lists.specs.Below.{all_more}
 use Rattle.record.specs.Body.{body_at, mnemonic_of, name_of}
 use Rattle.checker.specs.Broken.{is_flow_word}
 use Rattle.checker.proofs.names.no_flow_words.Given as goal
