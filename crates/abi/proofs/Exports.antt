@@ -1,14 +1,13 @@
 -- What the exported functions answer and leave is what their definitions say.
 -- The call's answer has the number, the sizes and the looks.
-use mathlib.Core.Path.{◌≡◌, ap, subst, ◌∙◌}
+use mathlib.Core.Path.{◌≡◌, ap, ◌∙◌}
 use mathlib.Core.List.{List, [], ◌∷◌}
 use Prim.Native.Nat.{ℕ}
 use lib.ListN.{set}
 use Rattle.lists.specs.Put.{put}
 use Rattle.lists.specs.PutLaws.{put_cons, put_none}
-use Rattle.rows.specs.Lists.{Lists, number_of, answer_for}
-use Rattle.record.specs.Asked.{first_no}
-use Rattle.pseudo.specs.Called.{sizes, LooksCounted}
+use Rattle.rows.specs.Lists.{Lists, number_of}
+use Rattle.pseudo.specs.Called.{LooksCounted}
 use Rattle.pseudo.specs.Promise.{Promise}
 use Rattle.rows.specs.declared.answer.Answer.{Answer}
 use Rattle.rows.specs.declared.answer.Answer.TheVariants.{Listed, No}

@@ -9,7 +9,7 @@ use Rattle.rows.specs.Lists.{Lists}
 use Rattle.rows.specs.declared.answer.Sizes.{Sizes}
 use Rattle.csv_rows.specs.Called.{written_number, written_size, Writes}
 use Rattle.csv_rows.specs.declared.writing.Written.{Written}
-use Rattle.abi.specs.Rows.{sizes_in, written, RowsWritten}
+use Rattle.abi.specs.Rows.{sizes_in, RowsWritten}
 
 pub sizes_read_lem : (z : List ℕ) (x n m : ℕ) → x ≡ get_or z 0 0 → n ≡ get_or z 1 0 → m ≡ get_or z 2 0 → record { text = x; tokens = n; lines = m } ≡ sizes_in z
 sizes_read_lem z x n m p q r = rw (p, q, r)
