@@ -31,12 +31,7 @@ fn put_back(values: &mut [u64], answer: Back) -> u8
 }
 
 // The string of a literal token: answers 0, 17 or 12. Nothing is demanded of the caller.
-pub fn cakirotu_read_literal(
-    kind: u8,
-    text: &[u8],
-    out: &mut [u8],
-    values: &mut [u64],
-) -> u8
+pub fn cakirotu_read_literal(kind: u8, text: &[u8], out: &mut [u8], values: &mut [u64]) -> u8
     ensures { LiteralRead kind text.now out.old out.new values.old values.new result }
 {
     let answer = read_literal(kind, text, out);

@@ -1,6 +1,6 @@
 -- The rows of a listing as a file's bytes: #102, "Write a listing as comma-separated rows after RFC 4180.", with the third field of #107.
 -- 34 is '"', 44 is ',', 13 and 10 are CR and LF.
-use Rattle.std.specs.Prelude.{Bool, true, false, ◌&&◌, ◌||◌, List, [], ◌∷◌, ◌++◌, ℕ, suc, ◌^◌, eqb, ltb, leb, get_or}
+use Rattle.std.specs.Prelude.{Bool, true, false, ◌&&◌, ◌||◌, List, [], ◌∷◌, ◌++◌, ℕ, ◌^◌, eqb, ltb, leb, get_or}
 use Rattle.lists.specs.Ascii.{ascii}
 use Rattle.lists.specs.Choice.{pick}
 use Rattle.lists.specs.Every.{every}

@@ -1,6 +1,6 @@
 -- What the lines of a record's plan read of their instructions is there: a line's own instruction is one of the record's, and has a condition
 -- where the line shows one. Each line stands at its block's instructions, and a block's ending tells of its last one.
-use Prim.Native.Nat.{ℕ, ◌-◌, ◌≤◌, ◌<◌}
+use Prim.Native.Nat.{ℕ, ◌≤◌, ◌<◌}
 use mathlib.Core.Bool.{Bool, true, false, not, ◌&&◌, ◌||◌, false≢true}
 use mathlib.Core.List.{List}
 use mathlib.Core.Path.{◌≡◌, refl}

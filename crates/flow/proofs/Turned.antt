@@ -1,6 +1,6 @@
 -- The rows of a record's edges stand block by block, and there are rows and targets of all of them.
 -- A block's first edge is the sum of the edges before it; question 5 says how many there are, question 4 that their targets are there.
-use Prim.Native.Nat.{ℕ, zero, suc, ◌+◌, ◌*◌, ◌≤◌, ◌<◌}
+use Prim.Native.Nat.{ℕ, zero, suc, ◌*◌, ◌≤◌}
 use mathlib.Core.Bool.{true}
 use mathlib.Core.List.{List}
 use mathlib.Core.Path.{◌≡◌, refl, sym, ◌∙◌}

@@ -10,7 +10,6 @@ use lib.Dec.{leb, leb→le, eqb, ltb}
 use lib.IntN.{ℤ, pos, negsuc, sub_ℕ, ◌+ℤ◌, nat_abs}
 use lib.ListN.{length, get_or, drop, length-append, length-take}
 use lib.Seq.{get_or-drop}
-use Rattle.lists.specs.Choice.{pick}
 use Rattle.lists.specs.Every.{every, every_at}
 use Rattle.lists.specs.Bytes.{u16_at, u32_at, u64_at}
 use Rattle.lists.specs.Signed.{signed_at}

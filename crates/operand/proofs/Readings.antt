@@ -19,7 +19,7 @@ use Rattle.record.specs.declared.search.Found.TheVariants.{At, Nothing}
 use Rattle.operand.specs.Expr.{Expr}
 use Rattle.operand.specs.Names.{entry_at, entry_token, name_or_at, name_or, literal_at}
 use Rattle.x86.specs.Width.{is_stack_pointer}
-use Rattle.operand.specs.Memory.{register_token, number, prefix_word, global, slot_base, slot_number, slot_token, address_of, scaled, address}
+use Rattle.operand.specs.Memory.{register_token, number, prefix_word, global, slot_base, slot_number, slot_token, address_of, scaled}
 use Rattle.operand.specs.Sized.{sized_of}
 
 -- a test of what was read

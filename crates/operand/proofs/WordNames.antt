@@ -1,6 +1,6 @@
 -- The words of types and of prefixes by their numbers are those of the definitions, and short.
 -- Each table of words is computed once; a size's index is an entry of it.
-use mathlib.Core.Path.{◌≡◌, refl, sym, ap, ◌∙◌}
+use mathlib.Core.Path.{◌≡◌, refl, sym, ◌∙◌}
 use mathlib.Core.List.{[], ◌++◌}
 use Prim.Native.Nat.{ℕ, ◌+◌, ◌≤◌}
 use native.Mathlib.Omega.{arith}

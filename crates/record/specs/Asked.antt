@@ -1,5 +1,5 @@
 -- The questions 1 to 11 and 15 in their order, and the first that gets a no.
-use Rattle.std.specs.Prelude.{ℕ, zero, suc, List, Bool, true, false, ◌&&◌, ◌≡◌, leb}
+use Rattle.std.specs.Prelude.{ℕ, zero, suc, List, Bool, ◌&&◌, ◌≡◌, leb}
 use Rattle.lists.specs.Choice.{ask}
 use Rattle.x86.specs.Registers.{register_exists}
 use Rattle.record.specs.Header.{header_of, header_fits, fields_ok, limits_ok}

@@ -1,6 +1,6 @@
 -- A listing's lines, each with its address, indent and place: those that seven lists hold, and the lists of lines. One definition for all
 -- who take a listing apart: rows for the spreadsheet, the keyer's table, the following of a listing.
-use Rattle.std.specs.Prelude.{Bool, ◌&&◌, ◌||◌, List, [], ◌∷◌, ◌++◌, map, ℕ, zero, suc, ◌+◌, ◌%◌, eqb, ltb, leb, length, get_or}
+use Rattle.std.specs.Prelude.{Bool, ◌&&◌, ◌||◌, List, [], ◌∷◌, ◌++◌, map, ℕ, suc, ◌+◌, ◌%◌, eqb, ltb, leb, length, get_or}
 use Rattle.lists.specs.Choice.{pick, all_below}
 use Rattle.lists.specs.Entries.{tab}
 use Rattle.tokens.specs.Token.{Token}

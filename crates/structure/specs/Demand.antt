@@ -1,6 +1,6 @@
 -- Demand 3, of the plan of a range: which instructions have a line, how braces nest, how many lines there are, how deep they stand; and
 -- which block each line names (#107).
-use Rattle.std.specs.Prelude.{ℕ, zero, suc, ◌+◌, ◌-◌, ◌*◌, ◌≤◌, ◌<◌, List, [], ◌∷◌, ◌++◌, Bool, true, false, not, ◌||◌, ◌≡◌, eqb, length, replicate}
+use Rattle.std.specs.Prelude.{ℕ, zero, suc, ◌+◌, ◌-◌, ◌*◌, ◌≤◌, ◌<◌, List, [], ◌∷◌, ◌++◌, Bool, false, not, ◌||◌, ◌≡◌, eqb, length, replicate}
 use Rattle.lists.specs.Choice.{pick, sum_below}
 use Rattle.cfg.specs.Graph.{first_in, count_in, ends_in_branch, ends_in_jmp, last_in, is_shown}
 use Rattle.structure.specs.Tree.{Tree, tree_of}

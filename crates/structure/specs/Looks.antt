@@ -1,5 +1,5 @@
 -- The looks of a range (#111), a fold over its tree: at each place what is read to tell what stands there, and for its label.
-use Rattle.std.specs.Prelude.{ℕ, ◌+◌, List, Bool, not, ◌&&◌, ltb}
+use Rattle.std.specs.Prelude.{ℕ, ◌+◌, List, not, ◌&&◌, ltb}
 use Rattle.lists.specs.Choice.{pick}
 use Rattle.cfg.specs.Graph.{label_wanted}
 use Rattle.cfg.specs.Looks.{outside_looks, shape_looks}

@@ -1,6 +1,6 @@
 -- `negate` turns each of the conditions 1 to 16 over, on every setting of the flags, and stays within sets that have each with its opposite.
 -- One test that antt computes, of 16 conditions at 32 settings; one of 17 numbers for each set.
-use mathlib.Core.Path.{◌≡◌, refl, sym, subst, ◌∙◌}
+use mathlib.Core.Path.{◌≡◌, sym, subst, ◌∙◌}
 use mathlib.Core.Bool.{Bool, true, false, not, ◌&&◌, beq, false≢true}
 use mathlib.Core.List.{[]}
 use Prim.Native.Nat.{ℕ, zero, suc, ◌+◌, ◌-◌, ◌≤◌, ◌<◌}

@@ -4,4 +4,4 @@ use Rattle.from_csv.proofs.Parts.{later_refused}
 use Rattle.from_csv.proofs.put_refused.Goals as goal
 
 pub returns : goal.returns
-returns c = let told_ = later_refused c.args.p c.args.n _ c.if-p-eq0.false in record { end = told_.0; text = told_.1 }
+returns c = let held = later_refused c.args.p c.args.n _ c.if-p-eq0.false in record { end = held.0; text = held.1 }

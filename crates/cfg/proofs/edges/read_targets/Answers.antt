@@ -1,13 +1,11 @@
 -- Targets read up to the first that is below an address: `read_targets` meets its contract.
 -- The invariant: none of the targets so far is.
 use mathlib.Core.Path.{◌≡◌, ◌∙◌}
-use mathlib.Core.Bool.{Bool, false, not, ◌&&◌}
+use mathlib.Core.Bool.{Bool, not, ◌&&◌}
 use mathlib.Core.List.{List}
-use Prim.Native.Nat.{ℕ, ◌+◌, ◌-◌, ◌*◌, ◌≤◌}
+use Prim.Native.Nat.{ℕ, ◌*◌}
 use lib.Dec.{ltb, eqb}
 use Rattle.lists.specs.Bytes.{u64_at}
-use Rattle.lists.specs.Choice.{any_below}
-use Rattle.lists.specs.Below.{any_goes_on}
 use Rattle.cfg.proofs.Reading.{reads_none, reads_at}
 use borrow.Author.Rules.{rules}
 use Rattle.cfg.proofs.edges.read_targets.Goals as goal

@@ -1,14 +1,13 @@
 -- The last block that closes a loop, and how many edges the search read: `last_loop` meets its contract.
 -- The invariant: the blocks before j are left, and their edges end at `end`.
-use mathlib.Core.Path.{◌≡◌, refl, ◌∙◌}
+use mathlib.Core.Path.{◌≡◌, ◌∙◌}
 use mathlib.Core.List.{List}
-use Prim.Native.Nat.{ℕ, ◌+◌, ◌-◌, ◌*◌, ◌≤◌, ◌<◌}
+use Prim.Native.Nat.{ℕ, ◌+◌, ◌-◌, ◌≤◌, ◌<◌}
 use native.Mathlib.Omega.{arith}
-use lib.ListN.{length}
 use Rattle.cfg.specs.Graph.{first_edge_in, edges_in}
 use Rattle.cfg.specs.Turn.{InTurn, edges_before}
 use Rattle.cfg.proofs.BlocksRead.{before_last}
-use Rattle.cfg.proofs.BackSearch.{Left, left_none, left_found, left_less}
+use Rattle.cfg.proofs.BackSearch.{left_none, left_found, left_less}
 use borrow.Author.Rules.{rules}
 use Rattle.cfg.proofs.shape.last_loop.Goals as goal
 

@@ -5,7 +5,7 @@ use Rattle.codes.proofs.TableLaws.{bytes, mnemonic_is, mnemonic_size}
 use Rattle.x86.proofs.Past.{no_mnemonic}
 use Rattle.x86.specs.Mnemonics.{mnemonic_name}
 use Rattle.tokens.specs.Token.{token}
-use Rattle.std.proofs.Common.{sym, ap, arith, rules}
+use Rattle.std.proofs.Common.{sym, ap, arith}
 use Rattle.codes.proofs.code.code_mnemonic.Goals as goal
 
 pub code_text-requires : goal.code_text-requires

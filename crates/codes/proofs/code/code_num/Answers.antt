@@ -1,7 +1,7 @@
 -- `code::code_num` meets its contract.
 -- Its value stands behind the code.
 use Rattle.codes.proofs.EachToken.{number_coded}
-use Rattle.std.proofs.Common.{arith, rules}
+use Rattle.std.proofs.Common.{arith}
 use Rattle.codes.proofs.code.code_num.Goals as goal
 
 pub returns : goal.returns

@@ -2,7 +2,7 @@
 -- The word of the table, and the value behind the code.
 use Rattle.codes.proofs.TableLaws.{bytes, word_kind}
 use Rattle.codes.proofs.Prefixed.{prefixed_word}
-use Rattle.std.proofs.Common.{◌+◌, ◌*◌, true, refl, arith, rules}
+use Rattle.std.proofs.Common.{true, refl, arith}
 use Rattle.codes.proofs.code.code_prefixed.Goals as goal
 
 pub bounds-tables-at : goal.bounds-tables-at

@@ -5,7 +5,7 @@ use Rattle.codes.proofs.TableLaws.{bytes, register_is, register_size_lem}
 use Rattle.x86.proofs.Past.{no_register}
 use Rattle.x86.specs.Registers.{register_name}
 use Rattle.tokens.specs.Token.{token}
-use Rattle.std.proofs.Common.{sym, ap, arith, rules}
+use Rattle.std.proofs.Common.{sym, ap, arith}
 use Rattle.codes.proofs.code.code_register.Goals as goal
 
 pub code_text-requires : goal.code_text-requires

@@ -1,6 +1,6 @@
 -- `code::code_text` meets its contract.
 -- The bytes behind the length.
-use Rattle.std.proofs.Common.{refl, arith, rules}
+use Rattle.std.proofs.Common.{refl, arith}
 use Rattle.lists.specs.Bytes.{u8_at}
 use Rattle.codes.proofs.EachToken.{text_coded}
 use Rattle.codes.proofs.code.code_text.Goals as goal

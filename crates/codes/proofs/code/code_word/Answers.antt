@@ -3,7 +3,7 @@
 use Rattle.codes.proofs.EachToken.{none_coded, as_token}
 use Rattle.codes.proofs.TableLaws.{bytes, word_is, word_kind, word_size, no_word}
 use Rattle.tokens.specs.Words.{word_token}
-use Rattle.std.proofs.Common.{arith, rules}
+use Rattle.std.proofs.Common.{arith}
 use Rattle.codes.proofs.code.code_word.Goals as goal
 
 pub bounds-tables-at : goal.bounds-tables-at

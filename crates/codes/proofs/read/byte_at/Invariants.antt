@@ -1,10 +1,8 @@
 -- `read::byte_at` meets its contract.
 -- The invariant: index k of the text from code i on is index j of the whole.
-use Rattle.std.proofs.Common.{◌≡◌, ◌-◌, length, get_or, drop, sym, refl, ◌∙◌, arith, rules}
-use Rattle.codes.specs.Code.{has_value, decode}
+use Rattle.std.proofs.Common.{◌≡◌, ◌-◌, length, get_or, drop}
+use Rattle.codes.specs.Code.{decode}
 use Rattle.codes.specs.Spelled.{spelled}
-use Rattle.codes.proofs.Decoded.{width_few}
-use Rattle.codes.proofs.SpelledLaws.{in_code, behind_code, behind_all}
 use Rattle.codes.proofs.read.byte_at.Given as goal
 
 abbrev pub invariant-loop-i : goal.invariant-loop-i

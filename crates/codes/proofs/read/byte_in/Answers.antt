@@ -1,6 +1,6 @@
 -- `read::byte_in` meets its contract.
 -- By what the text is made of.
-use Rattle.std.proofs.Common.{sym, ap, ◌∙◌, rules}
+use Rattle.std.proofs.Common.{sym, ap, ◌∙◌}
 use Rattle.text.specs.Literal.{literal_text}
 use Rattle.codes.proofs.Made.{text_table, text_record, text_number, text_negative, text_word, text_literal, byte_told}
 use Rattle.codes.proofs.read.byte_in.Goals as goal

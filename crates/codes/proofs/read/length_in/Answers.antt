@@ -1,6 +1,6 @@
 -- `read::length_in` meets its contract.
 -- By what the text is made of.
-use Rattle.std.proofs.Common.{true, sym, refl, ap, ◌∙◌, rules}
+use Rattle.std.proofs.Common.{true, sym, refl, ap, ◌∙◌}
 use Rattle.text.specs.Literal.{literal_text}
 use Rattle.codes.proofs.Made.{text_table, text_record, text_number, text_negative, text_literal, word_length, length_told}
 use Rattle.codes.proofs.read.length_in.Goals as goal

@@ -1,10 +1,9 @@
 -- `read::same_texts` meets its contract.
 -- The invariant: from index j on the texts are the same exactly if the whole texts are.
-use Rattle.std.proofs.Common.{◌≡◌, ◌-◌, drop, refl, ◌∙◌, arith, rules}
+use Rattle.std.proofs.Common.{◌≡◌, ◌-◌, drop}
 use Rattle.x86.specs.Words.{same_word}
 use Rattle.codes.specs.Code.{decode}
 use Rattle.codes.specs.Spelled.{spelled}
-use Rattle.codes.proofs.SpelledLaws.{same_further, same_no_more, same_all}
 use Rattle.codes.proofs.read.same_texts.Given as goal
 
 abbrev pub invariant-loop-j : goal.invariant-loop-j

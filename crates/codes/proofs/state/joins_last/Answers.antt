@@ -1,6 +1,6 @@
 -- `state::joins_last` meets its contract.
 -- One computed test of the bit of each kind.
-use Rattle.std.proofs.Common.{◌≡◌, ℕ, ◌/◌, ◌%◌, ◌^◌, ◌<◌, Bool, ◌&&◌, eqb, ap, rules}
+use Rattle.std.proofs.Common.{◌≡◌, ℕ, ◌/◌, ◌%◌, ◌^◌, ◌<◌, Bool, ◌&&◌, eqb, ap}
 use mathlib.Core.Bool.{beq}
 use Rattle.lists.specs.Below.{below_at}
 use Rattle.lists.specs.Every.{beq→eq}

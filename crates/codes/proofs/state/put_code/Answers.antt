@@ -1,7 +1,6 @@
 -- `state::put_code` meets its contract.
 -- The token is counted and its code stored.
 use Rattle.codes.proofs.Five.{added}
-use Rattle.std.proofs.Common.{rules}
 use Rattle.codes.proofs.state.put_code.Goals as goal
 
 pub returns : goal.returns

@@ -1,7 +1,6 @@
 -- `state::put_end` meets its contract.
 -- Two stores and the code.
 use Rattle.codes.proofs.Five.{ended}
-use Rattle.std.proofs.Common.{set, ◌∙◌, arith, length-set, rules}
 use Rattle.codes.proofs.state.put_end.Goals as goal
 
 pub returns : goal.returns

@@ -1,7 +1,6 @@
 -- `state::put_valued` meets its contract.
 -- The token is counted, its code and the value stored.
 use Rattle.codes.proofs.Five.{added_valued}
-use Rattle.std.proofs.Common.{rules}
 use Rattle.codes.proofs.state.put_valued.Goals as goal
 
 pub returns : goal.returns

@@ -1,6 +1,5 @@
 -- `tables::isa_of` meets its contract.
 -- What stands behind the words.
-use Rattle.std.proofs.Common.{rules}
 use Rattle.codes.proofs.TableLaws.{isa_is}
 use Rattle.codes.proofs.tables.isa_of.Goals as goal
 

@@ -1,15 +1,10 @@
 -- `columns::put_column` meets its contract.
 -- The invariant: the column's first i bytes are stored, and the next stands where `from` is.
-use mathlib.Core.Path.{◌≡◌, refl, sym}
+use mathlib.Core.Path.{◌≡◌}
 use Prim.Native.Nat.{◌+◌, ◌*◌, ◌-◌, ◌≤◌}
-use native.Mathlib.Nat.{zero-mul}
-use native.Mathlib.Omega.{arith}
-use lib.ListN.{length, get_or, length-set}
+use lib.ListN.{length, get_or}
 use Rattle.lists.specs.Entries.{tab}
 use Rattle.lists.specs.Put.{put}
-use Rattle.lists.specs.PutLaws.{put_none}
-use Rattle.columns.proofs.Transposed.{next_row, within_rows}
-use Rattle.columns.proofs.Storing.{entry_more}
 use Rattle.columns.proofs.columns.put_column.Given as goal
 
 abbrev pub invariant-loop-i : goal.invariant-loop-i

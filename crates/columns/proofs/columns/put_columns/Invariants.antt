@@ -1,16 +1,11 @@
 -- `columns::put_columns` meets its contract.
 -- The invariant: the first j columns are stored, one behind the other.
-use mathlib.Core.Path.{◌≡◌, refl}
+use mathlib.Core.Path.{◌≡◌}
 use Prim.Native.Nat.{◌+◌, ◌*◌, ◌-◌, ◌≤◌}
-use native.Mathlib.Nat.{zero-mul, mul_comm}
-use native.Mathlib.Omega.{arith}
 use lib.ListN.{length, drop}
 use Rattle.lists.specs.Entries.{tab}
 use Rattle.lists.specs.Put.{put}
-use Rattle.lists.specs.PutLaws.{put_none}
-use Rattle.columns.specs.Columns.{transposed}
-use Rattle.columns.proofs.Transposed.{next_row, within_rows, cell}
-use Rattle.columns.proofs.Storing.{column_more}
+use Rattle.columns.proofs.Transposed.{cell}
 use Rattle.columns.proofs.columns.put_columns.Given as goal
 
 abbrev pub invariant-loop-j : goal.invariant-loop-j

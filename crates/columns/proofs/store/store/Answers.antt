@@ -7,7 +7,7 @@ use Rattle.record.specs.Header.{header_of}
 use Rattle.record.proofs.AskedLaws.{sizes_limits}
 use Rattle.record.proofs.SizeLaws.{size_small}
 use Rattle.columns.proofs.Restored.{record_long, rearranged_is}
-use Rattle.columns.proofs.Answers.{store-yes, refuses, stores}
+use Rattle.columns.proofs.Answers.{store-yes, stores}
 use Rattle.columns.proofs.store.store.Goals as goal
 
 pub put_rearranged-requires : goal.put_rearranged-requires

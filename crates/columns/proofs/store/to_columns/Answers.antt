@@ -1,7 +1,6 @@
 -- `store::to_columns` meets its contract.
 -- It is `store`'s, with the number of bodies that the header gives.
 use mathlib.Core.Path.{refl}
-use native.Mathlib.Omega.{arith}
 use Rattle.columns.specs.Columns.{bodies, body_bytes}
 use Rattle.columns.proofs.store.to_columns.Goals as goal
 

@@ -11,4 +11,4 @@ pub loop-j-preserved : goal.loop-j-preserved
 loop-j-preserved c = go_turn c.loop-j.invariant (lines_more _ _ _ c.loop-j-test.true) c.put_row_line-p.ensures
 
 pub returns : goal.returns
-returns c = let told_ = lines_whole _ _ (go_end c.loop-j.invariant (lines_none _ _ _ c.loop-j-test.false)) in record { end = told_.0; text = told_.1 }
+returns c = let held = lines_whole _ _ (go_end c.loop-j.invariant (lines_none _ _ _ c.loop-j-test.false)) in record { end = held.0; text = held.1 }

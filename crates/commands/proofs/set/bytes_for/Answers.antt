@@ -4,8 +4,8 @@ use Rattle.commands.proofs.For.{for_none, for_line}
 use Rattle.commands.proofs.set.bytes_for.Goals as goal
 
 pub returns-then-n-eq0 : goal.returns-then-n-eq0
-returns-then-n-eq0 c = let told_ = for_none _ _ _ _ _ _ _ _ _ c.line_before-n.ensures.1 _ c.if-n-eq0.true in record { size = told_.0; bytes = told_.1 }
+returns-then-n-eq0 c = let held = for_none _ _ _ _ _ _ _ _ _ c.line_before-n.ensures.1 _ c.if-n-eq0.true in record { size = held.0; bytes = held.1 }
 
 pub returns : goal.returns
 returns c = let d = c in
-    let told_ = for_line _ _ _ _ _ _ _ _ _ d.line_before-n.ensures.1 _ _ d.if-n-eq0.false c.set_by.ensures in record { size = told_.0; bytes = told_.1 }
+    let held = for_line _ _ _ _ _ _ _ _ _ d.line_before-n.ensures.1 _ _ d.if-n-eq0.false c.set_by.ensures in record { size = held.0; bytes = held.1 }

@@ -1,7 +1,7 @@
 -- The address: `put_address` meets its contract.
 -- By whether the mark has one.
 use native.Mathlib.Omega.{arith}
-use Rattle.csv_rows.proofs.Heads.{address_none, address_wrote, address_length}
+use Rattle.csv_rows.proofs.Heads.{address_none, address_length}
 use Rattle.csv_rows.proofs.fields.put_address.Goals as goal
 
 pub returns-then-mark-lt256 : goal.returns-then-mark-lt256

@@ -1,9 +1,6 @@
 -- A text with its quotes doubled: `put_doubled` meets its contract.
 -- What is left from here is one byte and what is left behind it.
-use Prim.Native.Nat.{◌-◌}
-use native.Mathlib.Omega.{arith}
-use lib.ListN.{length}
-use Rattle.csv_rows.proofs.Going.{Going, going, go_length, go_turn, go_end, text_from, text_more, text_none, text_all, text_room}
+use Rattle.csv_rows.proofs.Going.{go_turn, go_end, text_more, text_none, text_all, text_room}
 use Rattle.csv_rows.proofs.fields.put_doubled.Goals as goal
 
 pub put_char-p-requires : goal.put_char-p-requires

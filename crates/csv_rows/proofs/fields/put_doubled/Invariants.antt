@@ -1,9 +1,8 @@
 -- A text with its quotes doubled: `put_doubled` meets its contract.
 -- What is left from here is one byte and what is left behind it.
 use Prim.Native.Nat.{◌-◌}
-use native.Mathlib.Omega.{arith}
 use lib.ListN.{length}
-use Rattle.csv_rows.proofs.Going.{Going, going, go_length, go_turn, go_end, text_from, text_more, text_none, text_all, text_room}
+use Rattle.csv_rows.proofs.Going.{Going, text_from}
 use Rattle.csv_rows.proofs.fields.put_doubled.Given as goal
 
 abbrev pub invariant-loop-i : goal.invariant-loop-i

@@ -1,8 +1,6 @@
 -- Whether each row is one: `rows_held` meets its contract.
 -- All before the one at hand are.
-use Prim.Native.Nat.{◌-◌}
-use native.Mathlib.Omega.{arith}
-use Rattle.csv_rows.proofs.Checks.{Rows, rows_start, rows_turn, rows_fail, rows_all}
+use Rattle.csv_rows.proofs.Checks.{rows_turn, rows_fail}
 use Rattle.csv_rows.proofs.held.rows_held.Goals as goal
 
 pub loop-i-preserved : goal.loop-i-preserved

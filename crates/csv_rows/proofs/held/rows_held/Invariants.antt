@@ -1,8 +1,7 @@
 -- Whether each row is one: `rows_held` meets its contract.
 -- All before the one at hand are.
 use Prim.Native.Nat.{◌-◌}
-use native.Mathlib.Omega.{arith}
-use Rattle.csv_rows.proofs.Checks.{Rows, rows_start, rows_turn, rows_fail, rows_all}
+use Rattle.csv_rows.proofs.Checks.{Rows}
 use Rattle.csv_rows.proofs.held.rows_held.Given as goal
 
 abbrev pub invariant-loop-i : goal.invariant-loop-i

@@ -1,8 +1,6 @@
 -- Whether each token is one: `tokens_held` meets its contract.
 -- All before the one at hand are.
-use Prim.Native.Nat.{◌-◌}
-use native.Mathlib.Omega.{arith}
-use Rattle.csv_rows.proofs.Checks.{Tokens, tokens_start, tokens_turn, tokens_fail, tokens_all}
+use Rattle.csv_rows.proofs.Checks.{tokens_turn, tokens_fail}
 use Rattle.csv_rows.proofs.held.tokens_held.Goals as goal
 
 pub loop-j-preserved : goal.loop-j-preserved

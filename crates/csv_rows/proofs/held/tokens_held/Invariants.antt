@@ -1,8 +1,7 @@
 -- Whether each token is one: `tokens_held` meets its contract.
 -- All before the one at hand are.
 use Prim.Native.Nat.{◌-◌}
-use native.Mathlib.Omega.{arith}
-use Rattle.csv_rows.proofs.Checks.{Tokens, tokens_start, tokens_turn, tokens_fail, tokens_all}
+use Rattle.csv_rows.proofs.Checks.{Tokens}
 use Rattle.csv_rows.proofs.held.tokens_held.Given as goal
 
 abbrev pub invariant-loop-j : goal.invariant-loop-j

@@ -3,7 +3,7 @@
 use mathlib.Core.Bool.{true}
 use native.Mathlib.Omega.{arith}
 use Rattle.text.specs.NumberLaws.{hex_digits_length}
-use Rattle.csv_rows.proofs.Digits.{Hex, hex_start, hex_length, hex_turn, hex_end}
+use Rattle.csv_rows.proofs.Digits.{hex_turn, hex_end}
 use Rattle.csv_rows.proofs.numbers.put_sixteen.Goals as goal
 
 pub loop-i-preserved : goal.loop-i-preserved

@@ -1,9 +1,6 @@
 -- Sixteen hex digits: `put_sixteen` meets its contract.
 -- Each turn stores the last digit that is left.
-use mathlib.Core.Bool.{true}
-use native.Mathlib.Omega.{arith}
-use Rattle.text.specs.NumberLaws.{hex_digits_length}
-use Rattle.csv_rows.proofs.Digits.{Hex, hex_start, hex_length, hex_turn, hex_end}
+use Rattle.csv_rows.proofs.Digits.{Hex}
 use Rattle.csv_rows.proofs.numbers.put_sixteen.Given as goal
 
 abbrev pub invariant-loop-i : goal.invariant-loop-i

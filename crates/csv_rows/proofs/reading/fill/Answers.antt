@@ -1,10 +1,7 @@
 -- `reading::fill` meets its contract.
 -- The invariant `Storing`: to store what is left is to store all.
-use Prim.Native.Nat.{◌-◌, ◌<◌}
 use native.Mathlib.Omega.{arith}
-use lib.ListN.{length}
-use Rattle.rows.specs.Lists.{lists_of}
-use Rattle.csv_rows.proofs.Turns.{Scan, Storing, scan_start, storing_start, storing_end, same_lengths, count_turn, store_turn}
+use Rattle.csv_rows.proofs.Turns.{scan_start, storing_start, storing_end, count_turn, store_turn}
 use Rattle.csv_rows.proofs.reading.fill.Goals as goal
 
 pub loop-i-init : goal.loop-i-init

@@ -1,9 +1,6 @@
 -- `reading::measure` meets its contract.
 -- The invariant `Scan`: what is counted, and what is left, is all there is to count.
-use Prim.Native.Nat.{◌-◌}
-use native.Mathlib.Omega.{arith}
-use lib.ListN.{length}
-use Rattle.csv_rows.proofs.Turns.{Scan, scan_start, scan_end, count_turn}
+use Rattle.csv_rows.proofs.Turns.{scan_start, scan_end, count_turn}
 use Rattle.csv_rows.proofs.reading.measure.Goals as goal
 
 pub loop-i-init : goal.loop-i-init

@@ -1,9 +1,8 @@
 -- `reading::measure` meets its contract.
 -- The invariant `Scan`: what is counted, and what is left, is all there is to count.
 use Prim.Native.Nat.{◌-◌}
-use native.Mathlib.Omega.{arith}
 use lib.ListN.{length}
-use Rattle.csv_rows.proofs.Turns.{Scan, scan_start, scan_end, count_turn}
+use Rattle.csv_rows.proofs.Turns.{Scan}
 use Rattle.csv_rows.proofs.reading.measure.Given as goal
 
 abbrev pub invariant-loop-i : goal.invariant-loop-i

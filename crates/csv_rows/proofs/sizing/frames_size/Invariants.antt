@@ -1,8 +1,7 @@
 -- The size of all rows besides their tokens: `frames_size` meets its contract.
 -- One more at each turn.
 use Prim.Native.Nat.{◌-◌}
-use native.Mathlib.Omega.{arith}
-use Rattle.csv_rows.proofs.Sums.{Frames, frames_start, frames_turn, frames_end}
+use Rattle.csv_rows.proofs.Sums.{Frames}
 use Rattle.csv_rows.proofs.sizing.frames_size.Given as goal
 
 abbrev pub invariant-loop-i : goal.invariant-loop-i

@@ -1,13 +1,7 @@
 -- Rows one behind the other: `put_rows` meets its contract.
 -- What is left from here is one row and what is left behind it.
-use Prim.Native.Nat.{◌-◌}
-use mathlib.Core.Path.{◌≡◌, refl}
 use native.Mathlib.Nat.{zero-add}
-use native.Mathlib.Omega.{arith}
-use Rattle.tokens.specs.Lines.{end_at}
-use Rattle.rows.specs.Lists.{lists_of}
-use Rattle.csv_rows.specs.Writing.{rows_from}
-use Rattle.csv_rows.proofs.Going.{Going, going, go_length, go_end}
+use Rattle.csv_rows.proofs.Going.{go_end}
 use Rattle.csv_rows.proofs.Rows.{head_room, line_room, rows_turn, rows_none}
 use Rattle.csv_rows.proofs.writing.put_rows.Goals as goal
 

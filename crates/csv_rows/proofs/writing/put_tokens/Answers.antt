@@ -1,11 +1,6 @@
 -- Tokens one behind the other: `put_tokens` meets its contract.
 -- What is left from here is one token and what is left behind it.
-use Prim.Native.Nat.{◌-◌}
-use mathlib.Core.Path.{◌≡◌}
-use native.Mathlib.Omega.{arith}
-use Rattle.tokens.specs.Lines.{end_at}
-use Rattle.csv_rows.specs.Writing.{tokens_from}
-use Rattle.csv_rows.proofs.Going.{Going, going, go_length, go_turn, go_end}
+use Rattle.csv_rows.proofs.Going.{go_turn, go_end}
 use Rattle.csv_rows.proofs.Rows.{tokens_more, tokens_none, token_room}
 use Rattle.csv_rows.proofs.writing.put_tokens.Goals as goal
 

@@ -2,11 +2,9 @@
 -- What is left from here is one token and what is left behind it.
 use Prim.Native.Nat.{◌-◌}
 use mathlib.Core.Path.{◌≡◌}
-use native.Mathlib.Omega.{arith}
 use Rattle.tokens.specs.Lines.{end_at}
 use Rattle.csv_rows.specs.Writing.{tokens_from}
-use Rattle.csv_rows.proofs.Going.{Going, going, go_length, go_turn, go_end}
-use Rattle.csv_rows.proofs.Rows.{tokens_more, tokens_none, token_room}
+use Rattle.csv_rows.proofs.Going.{Going}
 use Rattle.csv_rows.proofs.writing.put_tokens.Given as goal
 
 abbrev pub invariant-loop-j : goal.invariant-loop-j

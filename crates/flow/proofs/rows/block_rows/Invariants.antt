@@ -1,15 +1,11 @@
 -- `block_rows` meets its contract.
 -- The invariant: the running indexes, and to store the rows from here on is to store all of them.
-use mathlib.Core.Path.{◌≡◌, refl}
+use mathlib.Core.Path.{◌≡◌}
 use Prim.Native.Nat.{◌≤◌, ◌-◌, ◌*◌}
-use native.Mathlib.Omega.{arith}
-use Rattle.flow.specs.Rows.{block_row, block_rows}
+use Rattle.flow.specs.Rows.{block_row}
 use Rattle.record.specs.Layout.{marks_of}
 use Rattle.record.specs.Blocks.{first_instruction, first_edge}
-use Rattle.record.proofs.Running.{instruction_more, edge_more}
-use Rattle.flow.proofs.Totals.{block_has, edges_fit}
-use Rattle.flow.proofs.Storing.{Left, left_all, left_length, left_step, left_done}
-use Rattle.flow.proofs.Row.{array, row_stored}
+use Rattle.flow.proofs.Storing.{Left}
 use Rattle.flow.proofs.rows.block_rows.Given as goal
 
 abbrev pub invariant-loop-k : goal.invariant-loop-k

@@ -1,13 +1,10 @@
 -- `edge_rows` meets its contract.
 -- The invariant: to store the rows from here on is to store all of them.
-use mathlib.Core.Path.{◌≡◌}
-use Prim.Native.Nat.{◌≤◌, ◌-◌, ◌*◌}
 use native.Mathlib.Omega.{arith}
 use borrow.Author.Rules.{rules}
 use Rattle.flow.specs.Rows.{edge_row, edge_rows}
-use Rattle.record.specs.Layout.{targets_of, edge_kinds_of}
-use Rattle.flow.proofs.Storing.{Left, left_all, left_length, left_step, left_done}
-use Rattle.flow.proofs.Row.{array, edge_stored}
+use Rattle.flow.proofs.Storing.{left_step, left_done}
+use Rattle.flow.proofs.Row.{edge_stored}
 use Rattle.flow.proofs.rows.edge_rows.Goals as goal
 
 pub loop-e-preserved : goal.loop-e-preserved

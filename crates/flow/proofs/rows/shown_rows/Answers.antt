@@ -1,13 +1,10 @@
 -- `shown_rows` meets its contract.
 -- The invariant: to store the rows from here on is to store all of them.
-use mathlib.Core.Path.{◌≡◌}
-use Prim.Native.Nat.{◌≤◌, ◌-◌}
 use native.Mathlib.Omega.{arith}
 use borrow.Author.Rules.{rules}
 use Rattle.flow.specs.Rows.{shown_row, shown_rows}
-use Rattle.record.specs.Layout.{bodies_of}
-use Rattle.flow.proofs.Storing.{Left, left_all, left_length, left_step, left_done}
-use Rattle.flow.proofs.Row.{array, shown_stored}
+use Rattle.flow.proofs.Storing.{left_step, left_done}
+use Rattle.flow.proofs.Row.{shown_stored}
 use Rattle.flow.proofs.rows.shown_rows.Goals as goal
 
 pub loop-i-preserved : goal.loop-i-preserved

@@ -2,11 +2,9 @@
 -- The invariant: to store the rows from here on is to store all of them.
 use mathlib.Core.Path.{◌≡◌}
 use Prim.Native.Nat.{◌≤◌, ◌-◌}
-use native.Mathlib.Omega.{arith}
-use Rattle.flow.specs.Rows.{shown_row, shown_rows}
+use Rattle.flow.specs.Rows.{shown_row}
 use Rattle.record.specs.Layout.{bodies_of}
-use Rattle.flow.proofs.Storing.{Left, left_all, left_length, left_step, left_done}
-use Rattle.flow.proofs.Row.{array, shown_stored}
+use Rattle.flow.proofs.Storing.{Left}
 use Rattle.flow.proofs.rows.shown_rows.Given as goal
 
 abbrev pub invariant-loop-i : goal.invariant-loop-i

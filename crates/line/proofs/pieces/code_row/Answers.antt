@@ -27,7 +27,7 @@ loop-i-preserved c =
     elim c.if-piece-lt102.branch [
       | then-piece-lt102 w ↦ met w.codes-is (is_word a.h a.rec.now a.site _ w.if-piece-lt102.true) w.code_word.auto.codes (w.code_word.ensures a.rec.now)
       | else-piece-lt102+then-piece-lt136 w ↦
-        met w.codes-is (is_operand a.h a.rec.now a.site _ _ c.requires.body_value _ w.if-piece-lt102.false w.if-piece-lt136.true w.slot_of.ensures) w.code_operand.auto.codes w.code_operand.ensures
+          met w.codes-is (is_operand a.h a.rec.now a.site _ _ c.requires.body_value _ w.if-piece-lt102.false w.if-piece-lt136.true w.slot_of.ensures) w.code_operand.auto.codes w.code_operand.ensures
       | else-piece-lt102+else-piece-lt136 w ↦ met w.codes-is refl w.code_special.auto.codes w.code_special.ensures
     ] in (
       omega (arith, next.0, c.loop-i.invariant.0),

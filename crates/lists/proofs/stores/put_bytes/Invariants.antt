@@ -1,12 +1,9 @@
 -- `stores::put_bytes` meets its contract.
 -- The invariant: to store the rest of s where the loop stands is to store all of s where it began.
-use mathlib.Core.Path.{◌≡◌, refl, sym, ◌∙◌}
+use mathlib.Core.Path.{◌≡◌}
 use Prim.Native.Nat.{◌≤◌, ◌-◌}
-use native.Mathlib.Omega.{arith}
-use lib.ListN.{length, drop, length-set}
+use lib.ListN.{length, drop}
 use Rattle.lists.specs.Put.{put}
-use Rattle.lists.specs.PutLaws.{put_length}
-use Rattle.lists.proofs.Storing.{step, done}
 use Rattle.lists.proofs.stores.put_bytes.Given as goal
 
 abbrev pub invariant-loop-i : goal.invariant-loop-i

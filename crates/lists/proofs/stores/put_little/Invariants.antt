@@ -1,14 +1,10 @@
 -- `stores::put_little` meets its contract.
 -- The invariant: to store what is left of the number where the loop stands is to store all of it where it began.
-use mathlib.Core.Path.{◌≡◌, refl, sym, ◌∙◌}
-use mathlib.Core.List.{List}
-use Prim.Native.Nat.{ℕ, suc, ◌+◌, ◌-◌, ◌/◌, ◌%◌, ◌≤◌, ◌<◌}
-use native.Mathlib.Nat.{add-zero, sub-zero}
-use native.Mathlib.Omega.{arith}
-use lib.ListN.{length, set, length-set}
+use mathlib.Core.Path.{◌≡◌}
+use Prim.Native.Nat.{◌+◌, ◌-◌, ◌≤◌}
+use lib.ListN.{length}
 use Rattle.lists.specs.Little.{little}
 use Rattle.lists.specs.Put.{put}
-use Rattle.lists.specs.PutLaws.{put_cons, put_none}
 use Rattle.lists.proofs.stores.put_little.Given as goal
 
 abbrev pub invariant-loop-i : goal.invariant-loop-i

@@ -1,10 +1,8 @@
 -- `stores::put_u32s` meets its contract.
 -- The invariant: to store the rest of s where the loop stands is to store all of s where it began.
-use mathlib.Core.Path.{◌≡◌, refl, sym, ◌∙◌}
-use Prim.Native.Nat.{◌≤◌, ◌-◌}
+use mathlib.Core.Path.{sym, ◌∙◌}
 use native.Mathlib.Omega.{arith}
-use lib.ListN.{length, drop, length-set}
-use Rattle.lists.specs.Put.{put}
+use lib.ListN.{length-set}
 use Rattle.lists.proofs.Storing.{step, done}
 use Rattle.lists.proofs.stores.put_u32s.Goals as goal
 

@@ -1,7 +1,7 @@
 -- `alike::alike` meets its contract.
 -- Texts of other lengths differ; the same codes have the same text.
 use Rattle.operand.specs.Alike.{alike}
-use Rattle.operand.proofs.SameText.{counts_differ, both_counts, codes_same, texts_same}
+use Rattle.operand.proofs.SameText.{counts_differ, codes_same, texts_same}
 use Rattle.operand.proofs.alike.alike.Goals as goal
 
 pub returns-then-n-u64_in : goal.returns-then-n-u64_in

@@ -1,11 +1,9 @@
 -- `alike::same_codes` meets its contract.
 -- The invariant: from index i on the numbers are the same exactly if all are.
-use mathlib.Core.Path.{◌≡◌, refl, sym, ◌∙◌}
+use mathlib.Core.Path.{◌≡◌}
 use Prim.Native.Nat.{◌-◌}
 use lib.ListN.{length, drop}
 use Rattle.x86.specs.Words.{same_word}
-use Rattle.codes.proofs.SpelledLaws.{same_further, same_no_more, same_all}
-use Rattle.operand.proofs.Texts.{other_lengths}
 use Rattle.operand.proofs.alike.same_codes.Given as goal
 
 abbrev pub invariant-loop-i : goal.invariant-loop-i

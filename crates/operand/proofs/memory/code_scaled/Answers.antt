@@ -1,7 +1,7 @@
 -- `memory::code_scaled` meets its contract.
 -- By whether there is a scale.
 use Rattle.operand.proofs.Tokens.{as_tokens, three}
-use Rattle.operand.proofs.Pieces.{scaled_more, scaled_one}
+use Rattle.operand.proofs.Pieces.{scaled_more}
 use Rattle.operand.proofs.memory.code_scaled.Goals as goal
 
 pub returns-then-scale-gt1 : goal.returns-then-scale-gt1

@@ -2,9 +2,7 @@
 -- A word behind the first of its kind.
 use mathlib.Core.Path.{ap, ◌∙◌}
 use Prim.Native.Nat.{◌+◌, ℕ}
-use native.Mathlib.Omega.{arith}
 use Rattle.tokens.specs.Words.{word_token}
-use Rattle.operand.proofs.Choices.{size_small}
 use Rattle.operand.proofs.WordNames.{type_word_lem}
 use Rattle.operand.proofs.memory.type_word.Goals as goal
 

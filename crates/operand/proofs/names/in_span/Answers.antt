@@ -1,11 +1,8 @@
 -- `names::in_span` meets its contract.
 -- Where spans are missing the invariant: no span so far holds the address.
-use mathlib.Core.Path.{◌≡◌, ◌∙◌}
-use mathlib.Core.Bool.{false}
-use Prim.Native.Nat.{◌≤◌, ◌-◌}
+use mathlib.Core.Path.{◌∙◌}
 use native.Mathlib.Omega.{arith}
-use Rattle.lists.specs.Choice.{any_below}
-use Rattle.operand.proofs.Entries.{part_is, holds, inside, outside, of_record_lem, nowhere}
+use Rattle.operand.proofs.Entries.{part_is, inside, of_record_lem, nowhere}
 use Rattle.operand.proofs.names.in_span.Goals as goal
 
 pub returns-then-n-spans : goal.returns-then-n-spans

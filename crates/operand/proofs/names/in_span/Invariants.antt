@@ -1,11 +1,10 @@
 -- `names::in_span` meets its contract.
 -- Where spans are missing the invariant: no span so far holds the address.
-use mathlib.Core.Path.{◌≡◌, ◌∙◌}
+use mathlib.Core.Path.{◌≡◌}
 use mathlib.Core.Bool.{false}
 use Prim.Native.Nat.{◌≤◌, ◌-◌}
-use native.Mathlib.Omega.{arith}
 use Rattle.lists.specs.Choice.{any_below}
-use Rattle.operand.proofs.Entries.{part_is, holds, inside, outside, of_record_lem, nowhere}
+use Rattle.operand.proofs.Entries.{holds}
 use Rattle.operand.proofs.names.in_span.Given as goal
 
 abbrev pub invariant-loop-k : goal.invariant-loop-k

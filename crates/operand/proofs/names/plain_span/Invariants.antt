@@ -1,11 +1,10 @@
 -- `names::plain_span` meets its contract.
 -- The invariant: no span so far holds the address.
-use mathlib.Core.Path.{◌≡◌, sym, ap, ◌∙◌}
+use mathlib.Core.Path.{◌≡◌}
 use mathlib.Core.Bool.{false}
 use Prim.Native.Nat.{◌≤◌, ◌-◌}
-use native.Mathlib.Omega.{arith}
 use Rattle.lists.specs.Choice.{any_below}
-use Rattle.operand.proofs.Entries.{holds, inside, outside}
+use Rattle.operand.proofs.Entries.{holds}
 use Rattle.operand.proofs.names.plain_span.Given as goal
 
 abbrev pub invariant-loop-k : goal.invariant-loop-k

@@ -1,7 +1,7 @@
 -- `names::text_place` meets its contract.
 -- The texts before it are at most 255 bytes each.
 use native.Mathlib.Omega.{arith}
-use Rattle.operand.proofs.Entry.{place_is, place_small}
+use Rattle.operand.proofs.Entry.{place_small}
 use Rattle.operand.proofs.names.text_place.Goals as goal
 
 pub overflow_add-result : goal.overflow_add-result

@@ -1,10 +1,6 @@
 -- `line::put_run` meets its contract.
 -- The invariant: to store what is left from here is to store all from the start.
-use mathlib.Core.Path.{◌≡◌, refl}
-use Prim.Native.Nat.{◌+◌, ◌-◌, ◌≤◌}
-use lib.ListN.{length, replicate}
-use Rattle.lists.specs.Put.{put}
-use Rattle.page.proofs.Pieces.{run_start, run_turn, run_done}
+use Rattle.page.proofs.Pieces.{run_turn, run_done}
 use borrow.Author.Rules.{rules}
 use Rattle.page.proofs.line.put_run.Goals as goal
 

@@ -1,10 +1,9 @@
 -- `line::put_run` meets its contract.
 -- The invariant: to store what is left from here is to store all from the start.
-use mathlib.Core.Path.{◌≡◌, refl}
+use mathlib.Core.Path.{◌≡◌}
 use Prim.Native.Nat.{◌+◌, ◌-◌, ◌≤◌}
 use lib.ListN.{length, replicate}
 use Rattle.lists.specs.Put.{put}
-use Rattle.page.proofs.Pieces.{run_start, run_turn, run_done}
 use Rattle.page.proofs.line.put_run.Given as goal
 
 abbrev pub invariant-loop-i : goal.invariant-loop-i

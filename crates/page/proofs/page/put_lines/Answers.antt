@@ -1,11 +1,8 @@
 -- `page::put_lines` meets its contract.
 -- The invariant: the lines left, stored from where the loop stands, are all of them stored from where the first begins.
-use mathlib.Core.Path.{◌≡◌, refl}
-use Prim.Native.Nat.{◌+◌, ◌-◌, ◌*◌, ◌≤◌}
+use mathlib.Core.Path.{refl}
 use native.Mathlib.Omega.{arith}
-use lib.ListN.{length}
-use Rattle.page.specs.Page.{lines_end}
-use Rattle.page.proofs.Pieces.{Ahead, lines_start, lines_turn, lines_end_lem, lines_done}
+use Rattle.page.proofs.Pieces.{lines_turn, lines_end_lem, lines_done}
 use borrow.Author.Rules.{rules}
 use Rattle.page.proofs.page.put_lines.Goals as goal
 

@@ -1,13 +1,11 @@
 -- `entries_ok` meets its contract.
 -- The invariant: so far addresses rise and kinds are right, or `ok` is false; `before` is the address of the entry before.
 use mathlib.Core.Path.{◌≡◌}
-use mathlib.Core.Bool.{◌&&◌}
-use Prim.Native.Nat.{◌+◌, ◌≤◌, ◌-◌}
+use Prim.Native.Nat.{◌+◌, ◌-◌}
 use native.Mathlib.Omega.{arith}
 use borrow.Author.Rules.{rules}
-use Rattle.lists.specs.Choice.{all_below}
 use Rattle.lists.specs.Below.{all_more}
-use Rattle.record.specs.Atlas.{entry_address, entry_kind, entry_kind_ok, rises, entries_ok}
+use Rattle.record.specs.Atlas.{entries_ok}
 use Rattle.record.proofs.atlas.entries_ok.Goals as goal
 
 pub loop-k-preserved : goal.loop-k-preserved

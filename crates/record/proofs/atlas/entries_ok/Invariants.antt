@@ -2,11 +2,9 @@
 -- The invariant: so far addresses rise and kinds are right, or `ok` is false; `before` is the address of the entry before.
 use mathlib.Core.Path.{◌≡◌}
 use mathlib.Core.Bool.{◌&&◌}
-use Prim.Native.Nat.{◌+◌, ◌≤◌, ◌-◌}
-use native.Mathlib.Omega.{arith}
+use Prim.Native.Nat.{◌≤◌, ◌-◌}
 use Rattle.lists.specs.Choice.{all_below}
-use Rattle.lists.specs.Below.{all_more}
-use Rattle.record.specs.Atlas.{entry_address, entry_kind, entry_kind_ok, rises, entries_ok}
+use Rattle.record.specs.Atlas.{entry_address, entry_kind, entry_kind_ok, rises}
 use Rattle.record.proofs.atlas.entries_ok.Given as goal
 
 abbrev pub invariant-loop-k : goal.invariant-loop-k

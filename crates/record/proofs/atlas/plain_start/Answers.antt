@@ -1,7 +1,6 @@
 -- `plain_start` meets its contract.
 -- The invariant: the lengths so far, summed, each below 256.
-use mathlib.Core.Path.{◌≡◌}
-use Prim.Native.Nat.{◌+◌, ◌*◌, ◌≤◌, ◌-◌}
+use Prim.Native.Nat.{◌+◌, ◌*◌}
 use native.Mathlib.Omega.{arith}
 use borrow.Author.Rules.{rules}
 use Rattle.record.specs.Atlas.{text_start}

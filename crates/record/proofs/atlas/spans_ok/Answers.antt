@@ -1,12 +1,8 @@
 -- Question 10: `spans_ok` meets its contract.
 -- The invariant: so far every span is right, or `ok` is false.
 use mathlib.Core.Path.{◌≡◌}
-use Prim.Native.Nat.{◌≤◌, ◌-◌}
 use native.Mathlib.Omega.{arith}
-use lib.Dec.{leb}
-use Rattle.lists.specs.Choice.{all_below}
-use Rattle.lists.specs.Below.{all_more}
-use Rattle.record.specs.Atlas.{span_first, span_last, spans_ok}
+use Rattle.record.specs.Atlas.{spans_ok}
 use Rattle.record.proofs.atlas.spans_ok.Goals as goal
 
 pub returns : goal.returns

@@ -2,11 +2,9 @@
 -- The invariant: so far every span is right, or `ok` is false.
 use mathlib.Core.Path.{◌≡◌}
 use Prim.Native.Nat.{◌≤◌, ◌-◌}
-use native.Mathlib.Omega.{arith}
 use lib.Dec.{leb}
 use Rattle.lists.specs.Choice.{all_below}
-use Rattle.lists.specs.Below.{all_more}
-use Rattle.record.specs.Atlas.{span_first, span_last, spans_ok}
+use Rattle.record.specs.Atlas.{span_first, span_last}
 use Rattle.record.proofs.atlas.spans_ok.Given as goal
 
 abbrev pub invariant-loop-k : goal.invariant-loop-k

@@ -1,7 +1,5 @@
 -- `text_start` meets its contract.
 -- Where pairs are missing the invariant: the lengths so far, summed.
-use mathlib.Core.Path.{◌≡◌}
-use Prim.Native.Nat.{◌*◌, ◌≤◌, ◌-◌}
 use native.Mathlib.Omega.{arith}
 use borrow.Author.Rules.{rules}
 use Rattle.record.specs.Atlas.{text_start}

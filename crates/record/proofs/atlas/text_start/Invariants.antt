@@ -2,9 +2,7 @@
 -- Where pairs are missing the invariant: the lengths so far, summed.
 use mathlib.Core.Path.{◌≡◌}
 use Prim.Native.Nat.{◌*◌, ◌≤◌, ◌-◌}
-use native.Mathlib.Omega.{arith}
 use Rattle.record.specs.Atlas.{text_start}
-use Rattle.record.proofs.Running.{text_more}
 use Rattle.record.proofs.atlas.text_start.Given as goal
 
 abbrev pub invariant-loop-i : goal.invariant-loop-i

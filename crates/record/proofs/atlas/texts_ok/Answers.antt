@@ -1,14 +1,11 @@
 -- `texts_ok` meets its contract.
 -- The invariant: so far every text suits its kind, or `ok` is false; `at` is where the next text begins.
 use mathlib.Core.Path.{◌≡◌}
-use Prim.Native.Nat.{◌*◌, ◌≤◌, ◌-◌}
 use native.Mathlib.Omega.{arith}
 use borrow.Author.Rules.{rules}
-use lib.ListN.{drop}
-use Rattle.lists.specs.Choice.{all_below}
 use Rattle.lists.specs.Below.{all_more}
 use Rattle.record.proofs.Running.{text_more}
-use Rattle.record.specs.Atlas.{entry_kind, entry_length, text_start, text_ok, texts_ok}
+use Rattle.record.specs.Atlas.{text_start, texts_ok}
 use Rattle.record.proofs.atlas.texts_ok.Goals as goal
 
 pub loop-k-init : goal.loop-k-init

@@ -2,11 +2,9 @@
 -- The invariant: so far every kind is at most 4, or `ok` is false.
 use mathlib.Core.Path.{◌≡◌}
 use Prim.Native.Nat.{◌≤◌, ◌-◌}
-use native.Mathlib.Omega.{arith}
 use lib.Dec.{leb}
 use Rattle.lists.specs.Choice.{all_below}
-use Rattle.lists.specs.Below.{all_more}
-use Rattle.record.specs.Blocks.{edge_kind_at, edge_kinds_ok}
+use Rattle.record.specs.Blocks.{edge_kind_at}
 use Rattle.record.proofs.blocks.edge_kinds_ok.Given as goal
 
 abbrev pub invariant-loop-e : goal.invariant-loop-e

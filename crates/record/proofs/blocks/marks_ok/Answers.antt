@@ -1,12 +1,8 @@
 -- Question 5: `marks_ok` meets its contract.
 -- The invariant: the two sums, and whether every label mark so far is 0 or 1.
 use mathlib.Core.Path.{◌≡◌}
-use Prim.Native.Nat.{◌≤◌, ◌-◌, ◌*◌}
 use native.Mathlib.Omega.{arith}
-use lib.Dec.{leb}
-use Rattle.lists.specs.Choice.{all_below, sum_below}
-use Rattle.lists.specs.Below.{all_more, sum_more}
-use Rattle.record.specs.Blocks.{instructions_in, edges_in, label_mark, marks_ok}
+use Rattle.record.specs.Blocks.{marks_ok}
 use Rattle.record.proofs.blocks.marks_ok.Goals as goal
 
 pub returns : goal.returns

@@ -2,11 +2,9 @@
 -- The invariant: the two sums, and whether every label mark so far is 0 or 1.
 use mathlib.Core.Path.{◌≡◌}
 use Prim.Native.Nat.{◌≤◌, ◌-◌, ◌*◌}
-use native.Mathlib.Omega.{arith}
 use lib.Dec.{leb}
 use Rattle.lists.specs.Choice.{all_below, sum_below}
-use Rattle.lists.specs.Below.{all_more, sum_more}
-use Rattle.record.specs.Blocks.{instructions_in, edges_in, label_mark, marks_ok}
+use Rattle.record.specs.Blocks.{instructions_in, edges_in, label_mark}
 use Rattle.record.proofs.blocks.marks_ok.Given as goal
 
 abbrev pub invariant-loop-k : goal.invariant-loop-k

@@ -1,14 +1,10 @@
 -- Question 6: `starts_differ` meets its contract.
 -- Starts that rise differ. For the others the invariant: every start so far is new.
-use mathlib.Core.Path.{◌≡◌, sym, ◌∙◌}
+use mathlib.Core.Path.{◌≡◌}
 use mathlib.Core.Bool.{true}
 use Prim.Native.Nat.{◌≤◌, ◌-◌}
-use native.Mathlib.Omega.{arith}
-use borrow.Author.Tests.{not-true, not-false}
 use Rattle.lists.specs.Choice.{all_below}
-use Rattle.lists.specs.Below.{all_goes_on, all_fails}
-use Rattle.record.specs.Blocks.{start_is_new, starts_differ}
-use Rattle.record.proofs.Rising.{rising_differ}
+use Rattle.record.specs.Blocks.{start_is_new}
 use Rattle.record.proofs.blocks.starts_differ.Given as goal
 
 abbrev pub invariant-loop-k : goal.invariant-loop-k

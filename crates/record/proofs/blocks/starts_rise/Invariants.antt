@@ -1,11 +1,9 @@
 -- `starts_rise` meets its contract.
 -- The invariant: so far each start is above the one before it, or `ok` is false; `before` is the start of the block before.
 use mathlib.Core.Path.{◌≡◌}
-use Prim.Native.Nat.{◌+◌, ◌≤◌, ◌-◌}
-use native.Mathlib.Omega.{arith}
+use Prim.Native.Nat.{◌≤◌, ◌-◌}
 use Rattle.lists.specs.Choice.{all_below}
-use Rattle.lists.specs.Below.{all_more}
-use Rattle.record.specs.Blocks.{start_at, start_rises, starts_rise}
+use Rattle.record.specs.Blocks.{start_at, start_rises}
 use Rattle.record.proofs.blocks.starts_rise.Given as goal
 
 abbrev pub invariant-loop-k : goal.invariant-loop-k

@@ -1,11 +1,8 @@
 -- Question 8: `bodies_ok` meets its contract.
 -- Where bodies are cut off the invariant: so far every body is right, or `ok` is false.
 use mathlib.Core.Path.{◌≡◌}
-use Prim.Native.Nat.{◌≤◌, ◌-◌}
 use native.Mathlib.Omega.{arith}
-use Rattle.lists.specs.Choice.{all_below}
-use Rattle.lists.specs.Below.{all_more}
-use Rattle.record.specs.Body.{body_at, body_ok, bodies_ok}
+use Rattle.record.specs.Body.{bodies_ok}
 use Rattle.record.proofs.body.bodies_ok.Goals as goal
 
 pub returns : goal.returns

@@ -2,10 +2,8 @@
 -- Where bodies are cut off the invariant: so far every body is right, or `ok` is false.
 use mathlib.Core.Path.{◌≡◌}
 use Prim.Native.Nat.{◌≤◌, ◌-◌}
-use native.Mathlib.Omega.{arith}
 use Rattle.lists.specs.Choice.{all_below}
-use Rattle.lists.specs.Below.{all_more}
-use Rattle.record.specs.Body.{body_at, body_ok, bodies_ok}
+use Rattle.record.specs.Body.{body_at, body_ok}
 use Rattle.record.proofs.body.bodies_ok.Given as goal
 
 abbrev pub invariant-loop-i : goal.invariant-loop-i

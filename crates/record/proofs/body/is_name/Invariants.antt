@@ -2,11 +2,9 @@
 -- The invariant: so far every byte goes on as a name does, or `ok` is false; `before` is the last of them.
 use mathlib.Core.Path.{◌≡◌}
 use Prim.Native.Nat.{◌≤◌, ◌-◌}
-use native.Mathlib.Omega.{arith}
 use Rattle.lists.specs.Bytes.{u8_at}
 use Rattle.lists.specs.Choice.{all_below}
-use Rattle.lists.specs.Below.{all_more}
-use Rattle.record.specs.Body.{name_goes_on, is_name}
+use Rattle.record.specs.Body.{name_goes_on}
 use Rattle.record.proofs.body.is_name.Given as goal
 
 abbrev pub invariant-loop-k : goal.invariant-loop-k

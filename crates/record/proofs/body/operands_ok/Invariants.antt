@@ -2,10 +2,8 @@
 -- The invariant: so far every operand is right, or `ok` is false.
 use mathlib.Core.Path.{◌≡◌}
 use Prim.Native.Nat.{◌≤◌, ◌-◌}
-use native.Mathlib.Omega.{arith}
 use Rattle.lists.specs.Choice.{all_below}
-use Rattle.lists.specs.Below.{all_more}
-use Rattle.record.specs.Body.{operand_ok, operands_ok}
+use Rattle.record.specs.Body.{operand_ok}
 use Rattle.record.proofs.body.operands_ok.Given as goal
 
 abbrev pub invariant-loop-i : goal.invariant-loop-i

@@ -1,14 +1,9 @@
 -- `plain_bodies_ok` meets its contract.
 -- The invariant: every body so far is right.
 use mathlib.Core.Path.{◌≡◌, sym, ap, ◌∙◌}
-use mathlib.Core.Bool.{true}
-use Prim.Native.Nat.{◌≤◌, ◌-◌}
 use native.Mathlib.Omega.{arith}
 use borrow.Author.Rules.{rules}
-use borrow.Author.Tests.{not-true, not-false}
-use Rattle.lists.specs.Choice.{all_below}
-use Rattle.lists.specs.Below.{all_goes_on, all_fails}
-use lib.ListN.{length, length-drop}
+use Rattle.lists.specs.Below.{all_fails}
 use Rattle.record.specs.Body.{body_at, body_ok, bodies_ok}
 use Rattle.record.proofs.body.plain_bodies_ok.Goals as goal
 

@@ -1,14 +1,10 @@
 -- `plain_bodies_ok` meets its contract.
 -- The invariant: every body so far is right.
-use mathlib.Core.Path.{◌≡◌, sym, ap, ◌∙◌}
+use mathlib.Core.Path.{◌≡◌}
 use mathlib.Core.Bool.{true}
 use Prim.Native.Nat.{◌≤◌, ◌-◌}
-use native.Mathlib.Omega.{arith}
-use borrow.Author.Tests.{not-true, not-false}
 use Rattle.lists.specs.Choice.{all_below}
-use Rattle.lists.specs.Below.{all_goes_on, all_fails}
-use lib.ListN.{length, length-drop}
-use Rattle.record.specs.Body.{body_at, body_ok, bodies_ok}
+use Rattle.record.specs.Body.{body_at, body_ok}
 use Rattle.record.proofs.body.plain_bodies_ok.Given as goal
 
 abbrev pub invariant-loop-i : goal.invariant-loop-i

@@ -3,10 +3,9 @@
 use mathlib.Core.Path.{◌≡◌}
 use mathlib.Core.Bool.{Bool}
 use mathlib.Core.List.{List}
-use Prim.Native.Nat.{ℕ, ◌+◌, ◌-◌, ◌*◌, ◌≤◌}
+use Prim.Native.Nat.{ℕ, ◌+◌, ◌-◌}
 use native.Mathlib.Omega.{arith}
 use borrow.Author.Rules.{rules}
-use Rattle.lists.specs.Choice.{all_below, sum_below}
 use Rattle.lists.specs.Below.{all_more, sum_more}
 use Rattle.record.specs.Blocks.{instructions_in, edges_in, first_instruction, first_edge}
 use Rattle.record.specs.Body.{body_at}

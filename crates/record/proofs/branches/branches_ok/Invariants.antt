@@ -1,15 +1,10 @@
 -- Question 15: `branches_ok` meets its contract.
 -- The invariant: the first edge and instruction of block k, and whether every block before it agrees.
 use mathlib.Core.Path.{◌≡◌}
-use mathlib.Core.Bool.{Bool}
-use mathlib.Core.List.{List}
-use Prim.Native.Nat.{ℕ, ◌+◌, ◌-◌, ◌*◌, ◌≤◌}
-use native.Mathlib.Omega.{arith}
-use Rattle.lists.specs.Choice.{all_below, sum_below}
-use Rattle.lists.specs.Below.{all_more, sum_more}
-use Rattle.record.specs.Blocks.{instructions_in, edges_in, first_instruction, first_edge}
-use Rattle.record.specs.Body.{body_at}
-use Rattle.record.specs.Branches.{branch_agrees, branch_ok, branches_ok}
+use Prim.Native.Nat.{◌-◌, ◌*◌, ◌≤◌}
+use Rattle.lists.specs.Choice.{all_below}
+use Rattle.record.specs.Blocks.{first_instruction, first_edge}
+use Rattle.record.specs.Branches.{branch_ok}
 use Rattle.record.proofs.branches.branches_ok.Given as goal
 
 abbrev pub invariant-loop-k : goal.invariant-loop-k

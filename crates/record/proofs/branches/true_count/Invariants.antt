@@ -2,10 +2,8 @@
 -- The invariant: the sum so far.
 use mathlib.Core.Path.{◌≡◌}
 use Prim.Native.Nat.{◌+◌, ◌-◌, ◌≤◌}
-use native.Mathlib.Omega.{arith}
 use Rattle.lists.specs.Choice.{pick, sum_below}
-use Rattle.lists.specs.Below.{sum_more}
-use Rattle.record.specs.Branches.{is_true, true_count}
+use Rattle.record.specs.Branches.{is_true}
 use Rattle.record.proofs.branches.true_count.Given as goal
 
 abbrev pub invariant-loop-m : goal.invariant-loop-m

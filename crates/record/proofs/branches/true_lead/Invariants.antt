@@ -3,12 +3,10 @@
 use mathlib.Core.Path.{◌≡◌}
 use mathlib.Core.Bool.{not, ◌||◌}
 use Prim.Native.Nat.{◌+◌, ◌-◌, ◌≤◌}
-use native.Mathlib.Omega.{arith}
 use lib.Dec.{eqb}
 use Rattle.lists.specs.Choice.{all_below}
-use Rattle.lists.specs.Below.{all_more}
 use Rattle.record.specs.Blocks.{target_at}
-use Rattle.record.specs.Branches.{is_true, true_lead}
+use Rattle.record.specs.Branches.{is_true}
 use Rattle.record.proofs.branches.true_lead.Given as goal
 
 abbrev pub invariant-loop-m : goal.invariant-loop-m

@@ -1,10 +1,8 @@
 -- `first_of` meets its contract.
 -- Where numbers are missing the invariant: the first from here on is the first of all.
-use mathlib.Core.Path.{◌≡◌, sym, ◌∙◌}
-use Prim.Native.Nat.{◌≤◌, ◌-◌}
+use mathlib.Core.Path.{sym, ◌∙◌}
 use borrow.Author.Rules.{rules}
-use Rattle.record.specs.Search.{find_from}
-use Rattle.record.proofs.SearchLaws.{find_all, find_here, find_next, find_none}
+use Rattle.record.proofs.SearchLaws.{find_here, find_next, find_none}
 use Rattle.record.proofs.search.first_of.Goals as goal
 
 pub returns-then-number_at-x : goal.returns-then-number_at-x

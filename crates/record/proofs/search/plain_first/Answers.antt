@@ -1,10 +1,8 @@
 -- `plain_first` meets its contract.
 -- The invariant: the first from here on is the first of all.
-use mathlib.Core.Path.{◌≡◌, sym, ◌∙◌}
-use Prim.Native.Nat.{◌≤◌, ◌-◌}
+use mathlib.Core.Path.{sym, ◌∙◌}
 use borrow.Author.Rules.{rules}
-use Rattle.record.specs.Search.{find_from}
-use Rattle.record.proofs.SearchLaws.{find_all, find_here, find_next, find_none}
+use Rattle.record.proofs.SearchLaws.{find_here, find_next, find_none}
 use Rattle.record.proofs.search.plain_first.Goals as goal
 
 pub returns-then-plain_u64-x : goal.returns-then-plain_u64-x

@@ -1,9 +1,8 @@
 -- `plain_first` meets its contract.
 -- The invariant: the first from here on is the first of all.
-use mathlib.Core.Path.{◌≡◌, sym, ◌∙◌}
+use mathlib.Core.Path.{◌≡◌}
 use Prim.Native.Nat.{◌≤◌, ◌-◌}
 use Rattle.record.specs.Search.{find_from}
-use Rattle.record.proofs.SearchLaws.{find_all, find_here, find_next, find_none}
 use Rattle.record.proofs.search.plain_first.Given as goal
 
 abbrev pub invariant-loop-k : goal.invariant-loop-k

@@ -1,11 +1,8 @@
 -- `plain_search` meets its contract.
 -- The invariant: numbers below `low` are smaller than x, those from `high` on greater.
 use Prim.Native.Nat.{◌≤◌, ◌-◌}
-use mathlib.Core.Path.{sym, ◌∙◌}
-use native.Mathlib.Omega.{arith}
 use Rattle.record.specs.Search.{number_at}
-use Rattle.record.proofs.SearchLaws.{find_nothing, find_first}
-use Rattle.record.proofs.Halving.{Between, between_all, between_none, found_first, go_up, go_down}
+use Rattle.record.proofs.Halving.{Between}
 use Rattle.record.proofs.search.plain_search.Given as goal
 
 abbrev pub invariant-loop-low : goal.invariant-loop-low

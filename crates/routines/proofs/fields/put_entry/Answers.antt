@@ -42,13 +42,13 @@ body-room : (at a k n : ℕ) (e : Ending) → a ≡ 5 → at + length (entry_of 
 body-room at a k n e p h = let w : at + length (body_of e) ≤ n = rw p at h in omega (arith, length_body e)
 
 pub returns-then-a-eq1 : goal.returns-then-a-eq1
-returns-then-a-eq1 c = let told_ = of-mark _ _ _ _ _ _ _ c.if-a-eq1.true c.put_mark.ensures.end (c.put_mark.ensures.bytes _) in record { end = told_.0; bytes = told_.1 }
+returns-then-a-eq1 c = let held = of-mark _ _ _ _ _ _ _ c.if-a-eq1.true c.put_mark.ensures.end (c.put_mark.ensures.bytes _) in record { end = held.0; bytes = held.1 }
 
 pub put_body-requires : goal.put_body-requires
 put_body-requires c = (body-room _ _ c.args.k _ c.args.e c.if-a-eq5.true c.requires.0, omega arith, c.requires.4)
 
 pub returns-then-a-eq5 : goal.returns-then-a-eq5
-returns-then-a-eq5 c = let told_ = of-body _ _ _ _ _ _ _ c.if-a-eq5.true c.put_body.ensures.end c.put_body.ensures.bytes in record { end = told_.0; bytes = told_.1 }
+returns-then-a-eq5 c = let held = of-body _ _ _ _ _ _ _ c.if-a-eq5.true c.put_body.ensures.end c.put_body.ensures.bytes in record { end = held.0; bytes = held.1 }
 
 pub returns : goal.returns
-returns c = let told_ = of-start _ _ _ _ _ _ _ _ c.if-a-eq1.false c.if-a-eq2.false c.if-a-eq3.false c.if-a-eq5.false (omega arith) c.start.ensures c.put_u64.ensures.end c.put_u64.ensures.bytes in record { end = told_.0; bytes = told_.1 }
+returns c = let held = of-start _ _ _ _ _ _ _ _ c.if-a-eq1.false c.if-a-eq2.false c.if-a-eq3.false c.if-a-eq5.false (omega arith) c.start.ensures c.put_u64.ensures.end c.put_u64.ensures.bytes in record { end = held.0; bytes = held.1 }

@@ -1,9 +1,7 @@
 -- `literal::characters` meets its contract.
 -- The invariant: the text begins with the characters that were read.
-use Prim.Native.Nat.{◌-◌}
 use native.Mathlib.Omega.{arith}
-use Rattle.strings.specs.Reading.{Begins}
-use Rattle.strings.proofs.Characters.{begins_none, begins_more, begins_last, begins_all}
+use Rattle.strings.proofs.Characters.{begins_none, begins_more, begins_last}
 use Rattle.strings.proofs.literal.characters.Goals as goal
 
 pub loop-n-init : goal.loop-n-init

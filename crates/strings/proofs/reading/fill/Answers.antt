@@ -1,8 +1,6 @@
 -- `reading::fill` meets its contract.
 -- The invariant `Filling`: what is left of the characters is what is left to store.
-use Prim.Native.Nat.{◌-◌}
-use native.Mathlib.Omega.{arith}
-use Rattle.strings.proofs.Characters.{Filling, filling_start, filling_more, filling_end}
+use Rattle.strings.proofs.Characters.{filling_more, filling_end}
 use Rattle.strings.proofs.reading.fill.Goals as goal
 
 pub loop-k-preserved : goal.loop-k-preserved

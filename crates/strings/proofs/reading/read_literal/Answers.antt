@@ -1,6 +1,6 @@
 -- `reading::read_literal` meets its contract.
 -- By what its passes ensure.
-use Rattle.strings.proofs.Answered.{no_literal, no_room, given_back}
+use Rattle.strings.proofs.Answered.{given_back}
 use Rattle.strings.proofs.reading.read_literal.Goals as goal
 
 pub returns : goal.returns

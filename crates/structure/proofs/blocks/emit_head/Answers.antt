@@ -1,7 +1,7 @@
 -- The block of an if-region: `emit_head` meets its contract.
 -- Its label, its shown instructions, its opening line, one after the other.
 use Rattle.structure.proofs.Parts.{head_parts}
-use Rattle.structure.proofs.Storing.{room_first, room_second, room_third, stored_three, room_one}
+use Rattle.structure.proofs.Storing.{stored_three}
 use Rattle.structure.proofs.blocks.emit_head.Goals as goal
 
 pub returns : goal.returns

@@ -1,6 +1,6 @@
 -- A label, if wanted: `label` meets its contract.
 -- By whether it is wanted.
-use Rattle.structure.proofs.Storing.{stored_none, room_one}
+use Rattle.structure.proofs.Storing.{stored_none}
 use Rattle.structure.proofs.lines.label.Goals as goal
 
 pub returns : goal.returns

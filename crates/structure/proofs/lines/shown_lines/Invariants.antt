@@ -1,12 +1,9 @@
 -- The lines of a run of instructions: `shown_lines` meets its contract.
 -- The invariant: to store the lines of the instructions that are left is to store those of all.
-use mathlib.Core.Path.{◌≡◌, ap, ◌∙◌}
-use Prim.Native.Nat.{ℕ, ◌+◌, ◌-◌, ◌≤◌}
+use Prim.Native.Nat.{◌-◌, ◌≤◌}
 use Rattle.structure.specs.Plan.{shown_lines}
 use Rattle.structure.specs.Codes.{codes}
-use Rattle.structure.proofs.Parts.{shown_turn, shown_over}
-use Rattle.structure.proofs.Storing.{Left, left_all, left_step, left_done, left_part, left_length}
-use native.Mathlib.Omega.{arith}
+use Rattle.structure.proofs.Storing.{Left}
 use Rattle.structure.proofs.lines.shown_lines.Given as goal
 
 abbrev pub invariant-loop-i : goal.invariant-loop-i

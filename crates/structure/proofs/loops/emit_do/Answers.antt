@@ -1,7 +1,7 @@
 -- The body of a do-loop: `emit_do` meets its contract.
 -- Its blocks before the last, then the last, one after the other.
 use Rattle.structure.proofs.Parts.{do_parts}
-use Rattle.structure.proofs.Storing.{stored_none, room_second, room_third, stored_three}
+use Rattle.structure.proofs.Storing.{stored_none, stored_three}
 use Rattle.structure.proofs.loops.emit_do.Goals as goal
 
 pub returns : goal.returns

@@ -5,7 +5,7 @@ use Prim.Native.Nat.{ℕ, ◌-◌}
 use Rattle.structure.specs.Plan.{flat_lines}
 use Rattle.structure.specs.Codes.{codes}
 use Rattle.structure.proofs.Parts.{flats_turn, flats_over}
-use Rattle.structure.proofs.Storing.{Left, left_all, left_step, left_done, left_part, left_length}
+use Rattle.structure.proofs.Storing.{left_step, left_done, left_part}
 use borrow.Author.Rules.{rules}
 use native.Mathlib.Omega.{arith}
 use Rattle.structure.proofs.loops.flat_lines.Goals as goal

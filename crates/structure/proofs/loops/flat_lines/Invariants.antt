@@ -1,12 +1,9 @@
 -- The blocks of a do-body before its last: `flat_lines` meets its contract.
 -- The invariant: to store the lines of the blocks that are left is to store those of all.
-use mathlib.Core.Path.{◌≡◌, ap, ◌∙◌}
-use Prim.Native.Nat.{ℕ, ◌-◌}
+use Prim.Native.Nat.{◌-◌}
 use Rattle.structure.specs.Plan.{flat_lines}
 use Rattle.structure.specs.Codes.{codes}
-use Rattle.structure.proofs.Parts.{flats_turn, flats_over}
-use Rattle.structure.proofs.Storing.{Left, left_all, left_step, left_done, left_part, left_length}
-use native.Mathlib.Omega.{arith}
+use Rattle.structure.proofs.Storing.{Left}
 use Rattle.structure.proofs.loops.flat_lines.Given as goal
 
 abbrev pub invariant-loop-k : goal.invariant-loop-k

@@ -1,10 +1,7 @@
 -- `bytes::hex_byte` meets its contract.
 -- The invariant: w has i digits, and its j-th is that of v.
-use mathlib.Core.Path.{◌≡◌, refl, sym, ◌∙◌}
-use Prim.Native.Nat.{◌<◌, ◌≤◌, ◌^◌}
+use mathlib.Core.Path.{◌∙◌}
 use native.Mathlib.Omega.{arith}
-use lib.ListN.{length, get_or, get_or-eq_default}
-use Rattle.text.specs.Number.{hex_text}
 use Rattle.text.proofs.ByteLaws.{hex_last, hex_fewer, hex_before}
 use Rattle.text.proofs.bytes.hex_byte.Goals as goal
 

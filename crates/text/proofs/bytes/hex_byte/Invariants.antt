@@ -1,11 +1,9 @@
 -- `bytes::hex_byte` meets its contract.
 -- The invariant: w has i digits, and its j-th is that of v.
-use mathlib.Core.Path.{◌≡◌, refl, sym, ◌∙◌}
+use mathlib.Core.Path.{◌≡◌}
 use Prim.Native.Nat.{◌<◌, ◌≤◌, ◌^◌}
-use native.Mathlib.Omega.{arith}
-use lib.ListN.{length, get_or, get_or-eq_default}
+use lib.ListN.{length, get_or}
 use Rattle.text.specs.Number.{hex_text}
-use Rattle.text.proofs.ByteLaws.{hex_last, hex_fewer, hex_before}
 use Rattle.text.proofs.bytes.hex_byte.Given as goal
 
 abbrev pub invariant-loop-i : goal.invariant-loop-i

@@ -1,12 +1,12 @@
 -- `bytes::inside_byte` meets its contract.
 -- The invariant: index k behind the spelling of byte i - 1 is index j of the whole.
-use mathlib.Core.Path.{◌≡◌, refl, ap, sym, ◌∙◌}
-use mathlib.Core.List.{List, ◌++◌}
-use Prim.Native.Nat.{ℕ, ◌-◌, ◌≤◌, ◌<◌, min}
+use mathlib.Core.Path.{ap, sym, ◌∙◌}
+use mathlib.Core.List.{List}
+use Prim.Native.Nat.{ℕ, ◌≤◌, ◌<◌, min}
 use native.Mathlib.Omega.{arith}
 use lib.Dec.{ltb}
-use lib.ListN.{length, take, drop, get_or}
-use Rattle.text.specs.Literal.{escapes, closing}
+use lib.ListN.{length, get_or}
+use Rattle.text.specs.Literal.{closing}
 use Rattle.text.proofs.ByteLaws.{escapes_over, escapes_here, escapes_further}
 use Rattle.text.proofs.bytes.inside_byte.Goals as goal
 

@@ -1,13 +1,11 @@
 -- `bytes::inside_byte` meets its contract.
 -- The invariant: index k behind the spelling of byte i - 1 is index j of the whole.
-use mathlib.Core.Path.{◌≡◌, refl, ap, sym, ◌∙◌}
-use mathlib.Core.List.{List, ◌++◌}
-use Prim.Native.Nat.{ℕ, ◌-◌, ◌≤◌, ◌<◌, min}
-use native.Mathlib.Omega.{arith}
+use mathlib.Core.Path.{◌≡◌}
+use mathlib.Core.List.{◌++◌}
+use Prim.Native.Nat.{◌-◌, ◌≤◌}
 use lib.Dec.{ltb}
 use lib.ListN.{length, take, drop, get_or}
 use Rattle.text.specs.Literal.{escapes, closing}
-use Rattle.text.proofs.ByteLaws.{escapes_over, escapes_here, escapes_further}
 use Rattle.text.proofs.bytes.inside_byte.Given as goal
 
 abbrev pub invariant-loop-i : goal.invariant-loop-i

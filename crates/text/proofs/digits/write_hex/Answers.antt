@@ -1,12 +1,9 @@
 -- `digits::write_hex` meets its contract.
 -- The invariant: the digits stored and those of w are those of v, and to store those of w is to store all.
 use borrow.Author.Rules.{rules}
-use mathlib.Core.Path.{◌≡◌, refl, ap, ◌∙◌}
-use Prim.Native.Nat.{◌+◌}
+use mathlib.Core.Path.{refl, ap, ◌∙◌}
 use native.Mathlib.Omega.{arith}
 use lib.ListN.{length, length-set}
-use Rattle.lists.specs.Put.{put}
-use Rattle.text.specs.Number.{hex_text}
 use Rattle.text.specs.NumberLaws.{hex_one, hex_count_more, hex_some, hex_64}
 use Rattle.text.proofs.DigitLaws.{turn, last}
 use Rattle.text.proofs.digits.write_hex.Goals as goal

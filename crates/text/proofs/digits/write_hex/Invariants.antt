@@ -1,13 +1,10 @@
 -- `digits::write_hex` meets its contract.
 -- The invariant: the digits stored and those of w are those of v, and to store those of w is to store all.
-use mathlib.Core.Path.{◌≡◌, refl, ap, ◌∙◌}
+use mathlib.Core.Path.{◌≡◌}
 use Prim.Native.Nat.{◌+◌}
-use native.Mathlib.Omega.{arith}
-use lib.ListN.{length, length-set}
+use lib.ListN.{length}
 use Rattle.lists.specs.Put.{put}
 use Rattle.text.specs.Number.{hex_text}
-use Rattle.text.specs.NumberLaws.{hex_one, hex_count_more, hex_some, hex_64}
-use Rattle.text.proofs.DigitLaws.{turn, last}
 use Rattle.text.proofs.digits.write_hex.Given as goal
 
 abbrev pub invariant-loop-w : goal.invariant-loop-w

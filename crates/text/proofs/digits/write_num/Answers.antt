@@ -1,10 +1,9 @@
 -- `digits::write_num` meets its contract.
 -- The sign, if there is one, and the size behind it.
-use mathlib.Core.Path.{◌≡◌, refl, ap, ◌∙◌}
+use mathlib.Core.Path.{◌≡◌, refl, ap}
 use mathlib.Core.List.{[], ◌∷◌}
-use Prim.Native.Nat.{◌-◌, min}
+use Prim.Native.Nat.{min}
 use native.Mathlib.Omega.{arith}
-use borrow.Rule.Slice.PartMut.{same_len_mid}
 use Rattle.text.specs.Number.{size_text}
 use lib.ListN.{length, set, length-set}
 use Rattle.lists.specs.PutLaws.{put_both}

@@ -5,7 +5,6 @@ use mathlib.Core.Bool.{true}
 use Rattle.text.specs.Number.{hex_text}
 use lib.ListN.{length-append}
 use Rattle.lists.specs.PutLaws.{put_both}
-use Rattle.text.proofs.DigitLaws.{rest_room}
 use Rattle.text.proofs.digits.write_prefixed.Goals as goal
 
 pub returns : goal.returns

@@ -1,11 +1,10 @@
 -- `digits::write_size` meets its contract.
 -- Below 10 one store, else two and the digits behind them.
-use mathlib.Core.Path.{◌≡◌, refl, ap, ◌∙◌}
+use mathlib.Core.Path.{◌≡◌, refl, ap}
 use mathlib.Core.List.{[], ◌∷◌}
 use native.Mathlib.Omega.{arith}
-use Prim.Native.Nat.{◌-◌, min}
+use Prim.Native.Nat.{min}
 use mathlib.Core.Bool.{false}
-use borrow.Rule.Slice.PartMut.{same_len_mid}
 use Rattle.text.specs.Number.{hex_text}
 use lib.ListN.{length, set, length-set}
 use Rattle.lists.specs.PutLaws.{put_both}

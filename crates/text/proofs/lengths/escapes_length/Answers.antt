@@ -1,11 +1,9 @@
 -- `lengths::escapes_length` meets its contract.
 -- The invariant: what is summed and the spellings that are left are as long as all of them.
-use Rattle.text.specs.Literal.{escapes}
 use Rattle.text.proofs.LiteralLaws.{escapes_count, escapes_none}
-use lib.ListN.{length, take, drop}
+use lib.ListN.{length}
 use native.Mathlib.Omega.{arith}
-use Prim.Native.Nat.{◌≤◌, ◌<◌, ◌+◌, ◌-◌, ◌*◌, min}
-use mathlib.Core.Path.{◌≡◌}
+use Prim.Native.Nat.{◌≤◌, ◌<◌, min}
 use Rattle.text.proofs.lengths.escapes_length.Goals as goal
 
 pub loop-i-preserved : goal.loop-i-preserved

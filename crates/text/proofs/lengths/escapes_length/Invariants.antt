@@ -1,10 +1,8 @@
 -- `lengths::escapes_length` meets its contract.
 -- The invariant: what is summed and the spellings that are left are as long as all of them.
 use Rattle.text.specs.Literal.{escapes}
-use Rattle.text.proofs.LiteralLaws.{escapes_count, escapes_none}
 use lib.ListN.{length, take, drop}
-use native.Mathlib.Omega.{arith}
-use Prim.Native.Nat.{◌≤◌, ◌<◌, ◌+◌, ◌-◌, ◌*◌, min}
+use Prim.Native.Nat.{◌≤◌, ◌+◌, ◌-◌, ◌*◌}
 use mathlib.Core.Path.{◌≡◌}
 use Rattle.text.proofs.lengths.escapes_length.Given as goal
 

@@ -1,8 +1,7 @@
 -- `lengths::spelling_length` meets its contract.
 -- One of seven texts of two bytes, or the code.
-use Rattle.text.proofs.LiteralLaws.{letters_two, code_counted}
+use Rattle.text.proofs.LiteralLaws.{code_counted}
 use mathlib.Core.Bool.{false}
-use mathlib.Core.Path.{sym}
 use Rattle.text.proofs.lengths.spelling_length.Goals as goal
 
 pub returns : goal.returns

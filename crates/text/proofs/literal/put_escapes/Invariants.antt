@@ -1,15 +1,10 @@
 -- `literal::put_escapes` meets its contract.
 -- The invariant: to store the spellings that are left where the loop stands is to store all of them where it began.
-use mathlib.Core.Path.{◌≡◌, refl, sym, ◌∙◌}
-use mathlib.Core.List.{List}
-use Prim.Native.Nat.{ℕ, ◌≤◌, ◌<◌, ◌+◌, ◌-◌, ◌*◌, min}
-use native.Mathlib.Omega.{arith}
-use lib.ListN.{length, take, drop, get_or}
-use borrow.Rule.Slice.PartMut.{mid_of, put_mid}
+use mathlib.Core.Path.{◌≡◌}
+use Prim.Native.Nat.{◌≤◌, ◌+◌, ◌-◌, ◌*◌}
+use lib.ListN.{length, take, drop}
 use Rattle.lists.specs.Put.{put}
-use Rattle.lists.specs.PutLaws.{put_append, put_none, put_rest}
-use Rattle.text.specs.Literal.{escape, escapes}
-use Rattle.text.proofs.LiteralLaws.{escapes_from, escapes_count, escapes_end, escapes_none}
+use Rattle.text.specs.Literal.{escapes}
 use Rattle.text.proofs.literal.put_escapes.Given as goal
 
 abbrev pub invariant-loop-i : goal.invariant-loop-i

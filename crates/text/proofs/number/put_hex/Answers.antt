@@ -1,10 +1,7 @@
 -- `number::put_hex` meets its contract.
 -- The invariant: to store the digits of w where the loop stands is to store those of v where it began.
-use mathlib.Core.Path.{◌≡◌, refl, sym, ◌∙◌}
+use mathlib.Core.Path.{sym, ◌∙◌}
 use native.Mathlib.Omega.{arith}
-use lib.ListN.{length}
-use Rattle.text.specs.Number.{hex_text}
-use Rattle.lists.specs.Put.{put}
 use Rattle.lists.specs.PutLaws.{put_past}
 use Rattle.text.specs.NumberLaws.{hex_count_more, hex_some}
 use Rattle.text.proofs.DigitLaws.{turn, last}

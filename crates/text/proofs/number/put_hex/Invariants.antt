@@ -1,13 +1,9 @@
 -- `number::put_hex` meets its contract.
 -- The invariant: to store the digits of w where the loop stands is to store those of v where it began.
-use mathlib.Core.Path.{◌≡◌, refl, sym, ◌∙◌}
-use native.Mathlib.Omega.{arith}
+use mathlib.Core.Path.{◌≡◌}
 use lib.ListN.{length}
 use Rattle.text.specs.Number.{hex_text}
 use Rattle.lists.specs.Put.{put}
-use Rattle.lists.specs.PutLaws.{put_past}
-use Rattle.text.specs.NumberLaws.{hex_count_more, hex_some}
-use Rattle.text.proofs.DigitLaws.{turn, last}
 use Rattle.text.proofs.number.put_hex.Given as goal
 
 abbrev pub invariant-loop-w : goal.invariant-loop-w

@@ -1,7 +1,5 @@
 -- `copy::copy_eight` meets its contract.
 -- The bytes read are those of the part.
-use native.Mathlib.Omega.{arith}
-use lib.ListN.{length-set}
 use Rattle.writer.proofs.CopyLaws.{eight}
 use Rattle.writer.proofs.copy.copy_eight.Goals as goal
 

@@ -1,11 +1,7 @@
 -- `copy::copy_eights` meets its contract.
 -- The invariant: to store what is left where the loop stands is to store all from the start.
-use mathlib.Core.Path.{◌≡◌, refl, ◌∙◌}
-use Prim.Native.Nat.{◌-◌, ◌%◌, ◌≤◌}
+use mathlib.Core.Path.{◌∙◌}
 use native.Mathlib.Omega.{arith}
-use lib.ListN.{length}
-use Rattle.lists.specs.Put.{put}
-use Rattle.writer.specs.Copy.{left}
 use Rattle.writer.proofs.CopyLaws.{behind_part}
 use Rattle.writer.proofs.copy.copy_eights.Goals as goal
 

@@ -1,7 +1,5 @@
 -- `copy::copy_four` meets its contract.
 -- The bytes read are those of the part.
-use native.Mathlib.Omega.{arith}
-use lib.ListN.{length-set}
 use Rattle.writer.proofs.CopyLaws.{four}
 use Rattle.writer.proofs.copy.copy_four.Goals as goal
 

@@ -1,13 +1,9 @@
 -- `write::write_codes` meets its contract.
 -- The invariant: writing the codes left from here gives the page that writing all gives from the start, there is room for them, and they lie within the table.
-use mathlib.Core.Path.{◌≡◌, refl, ◌∙◌}
-use mathlib.Core.Bool.{true}
-use Prim.Native.Nat.{◌+◌, ◌-◌}
-use native.Mathlib.Omega.{arith}
-use lib.ListN.{length, drop, get_or}
-use Rattle.codes.specs.Code.{has_value, all_in_table, decode}
-use Rattle.writer.specs.Written.{page, on_page, Room}
-use Rattle.codes.proofs.Decoded.{width_few}
+use mathlib.Core.Path.{refl, ◌∙◌}
+use Prim.Native.Nat.{◌+◌}
+use lib.ListN.{length, get_or}
+use Rattle.writer.specs.Written.{page}
 use Rattle.writer.proofs.PageLaws.{fits_lines, end_fits, end_written, end_width, word_fits, word_written, word_width, word_in, rest_in, turn, turn_room, room_at, done}
 use Rattle.writer.proofs.write.write_codes.Goals as goal
 

@@ -1,14 +1,11 @@
 -- `write::write_codes` meets its contract.
 -- The invariant: writing the codes left from here gives the page that writing all gives from the start, there is room for them, and they lie within the table.
-use mathlib.Core.Path.{◌≡◌, refl, ◌∙◌}
+use mathlib.Core.Path.{◌≡◌}
 use mathlib.Core.Bool.{true}
-use Prim.Native.Nat.{◌+◌, ◌-◌}
-use native.Mathlib.Omega.{arith}
-use lib.ListN.{length, drop, get_or}
-use Rattle.codes.specs.Code.{has_value, all_in_table, decode}
+use Prim.Native.Nat.{◌-◌}
+use lib.ListN.{length, drop}
+use Rattle.codes.specs.Code.{all_in_table, decode}
 use Rattle.writer.specs.Written.{page, on_page, Room}
-use Rattle.codes.proofs.Decoded.{width_few}
-use Rattle.writer.proofs.PageLaws.{fits_lines, end_fits, end_written, end_width, word_fits, word_written, word_width, word_in, rest_in, turn, turn_room, room_at, done}
 use Rattle.writer.proofs.write.write_codes.Given as goal
 
 abbrev pub invariant-loop-i : goal.invariant-loop-i
