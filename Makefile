@@ -61,7 +61,7 @@ ifneq ($(CAKIROTU_LIB),)
 $(archive):
 	@echo "make: there is no $@; \`tools/made abi\` makes libabi.a, and CAKIROTU_LIB names its folder" >&2; exit 1
 else
-$(archive): crates.txt $(shell find crates -name out -prune -o -type f -print)
+$(archive): crates.txt $(shell find crates/*/src crates/*/specs crates/*/proofs -type f)
 	tools/made abi
 	touch $@
 endif
