@@ -162,8 +162,8 @@ mod tests {
         assert_eq!(answered(Ok(b"x".to_vec()), true), ("d.sys 1000:\nx".into(), none.clone(), Status::Listed));
         let refused = "d.sys 1000:\nno 1: Are there at least 24 bytes?\n".to_string();
         assert_eq!(answered(Ok(Vec::new()), true), (refused, none.clone(), Status::Refused));
-        let why = NoRecord::Unrecorded(Unrecorded::Other("a register".into()));
-        assert_eq!(answered(Err(why), true), ("d.sys 1000:\nno record: a register\n".into(), none.clone(), Status::Refused));
+        let why = NoRecord::Unrecorded(Unrecorded::Other("a limit".into()));
+        assert_eq!(answered(Err(why), true), ("d.sys 1000:\nno record: a limit\n".into(), none.clone(), Status::Refused));
         let why = NoRecord::Unrecorded(Unrecorded::Limit("501 instructions".into()));
         assert_eq!(answered(Err(why), true), ("d.sys 1000:\nno 3: 501 instructions\n".into(), none.clone(), Status::Refused));
         let why = NoRecord::Unread("gone".into());

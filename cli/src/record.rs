@@ -155,10 +155,7 @@ mod tests {
     #[test]
     fn like_reasons_are_counted_together() {
         let reasons = [
-            (
-                "300 edges of one block, more than the 255 that a record holds",
-                "edges of one block, more than the 255 that a record holds",
-            ),
+            ("220 blocks, more than the 200 that a record holds", "blocks, more than the 200 that a record holds"),
             ("at 401000 a register that a record has no number for: cr0", "a register that a record has no number for"),
             ("bytes at 401000 that do not decode", "bytes that do not decode"),
             ("more code than is decoded of one file", "more code than is decoded of one file"),
@@ -170,7 +167,7 @@ mod tests {
         }
         let outcomes = reasons.map(|(why, _)| Outcome::Unrecorded(why.into()));
         let last = "2 routines, 0 listed, 2 without a record: 1 by a register that a record has no number for; \
-            1 by edges of one block, more than the 255 that a record holds\n";
+            1 by blocks, more than the 200 that a record holds\n";
         assert_eq!(summary(&outcomes[..2]), last);
     }
 

@@ -21,9 +21,9 @@ use Rattle.lists.specs.declared.stored.Stored.TheVariants.{Bytes, No}
 use Rattle.columns.proofs.Restored.{is_rearranged}
 
 -- what a yes to all says
-pub store-yes : (s : List ℕ) (room : ℕ) → store_no s room ≡ 0 → (sizes_no s ≡ 0) × (length s ≤ room)
+pub store_yes : (s : List ℕ) (room : ℕ) → store_no s room ≡ 0 → (sizes_no s ≡ 0) × (length s ≤ room)
 unfolding store_no
-store-yes s room e =
+store_yes s room e =
     let p = later (sizes_no s) (ask 12 (leb (length s) room) 0) e in
     (p.0, leb-true (length s) room (passed 11 (leb (length s) room) 0 p.1).0)
 
@@ -35,7 +35,7 @@ module _ (rows columns : Header → ℕ) (s out : List ℕ) where
   pub stores : (out' : List ℕ) → store_no s (length out) ≡ 0 → columns (header_of s) * rows (header_of s) ≡ 92 * (header_of s).instructions
       → out' ≡ put 0 (rearranged rows columns s) out → Stores rows columns s out out' (Bytes (length s))
   stores out' e all p =
-      let y = store-yes s (length out) e in
+      let y = store_yes s (length out) e in
       let t = rearranged rows columns s in
       let r = is_rearranged rows columns s y.0 all in
       let whole : take (length s) out' ≡ t = rw (p, put_fits 0 t out (omega (arith, r.long, y.1))) (take_at t (drop (0 + length t) out) (length s) r.long) in

@@ -1,5 +1,5 @@
 -- What is stored grows by one entry, by one column, and is whole by three parts.
--- What is stored behind a text is stored with it, by `put-append`.
+-- What is stored behind a text is stored with it, by `put_append`.
 use mathlib.Core.Path.{◌≡◌, sym, ap, ◌∙◌}
 use mathlib.Core.List.{List, ◌++◌}
 use Prim.Native.Nat.{ℕ, ◌+◌, ◌-◌, ◌*◌, ◌≤◌, ◌<◌}

@@ -18,7 +18,7 @@ use Rattle.rows.specs.declared.answer.Answer.{Answer}
 use Rattle.rows.specs.declared.answer.Answer.TheVariants.{Listed, No}
 use Rattle.pseudo.specs.Listed.{line_address, line_mark, line_place, record_lines, record_lists}
 use Rattle.pseudo.specs.Called.{sizes, call_no, Called}
-use Rattle.pseudo.proofs.Answers.{printed-length}
+use Rattle.pseudo.proofs.Answers.{printed_length}
 use Rattle.page.specs.Page.{refusal, output_for}
 use Rattle.program.specs.Output.{program_rooms, program_no, output_text}
 
@@ -66,7 +66,7 @@ module _ (s : List ℕ) (to : ℕ) (whole : to ≡ (header_of s).blocks) (a : Li
   unfolding record_lines
   many =
       let p = record_plan (header_of s) s 0 to in
-      lines_length (record_lines (header_of s) s 0 to) ∙ printed-length (header_of s) s (first_in (block_rows (header_of s) s) 0) 0 p ∙ sym (length-map p (line_address (header_of s) s))
+      lines_length (record_lines (header_of s) s 0 to) ∙ printed_length (header_of s) s (first_in (block_rows (header_of s) s) 0) 0 p ∙ sym (length-map p (line_address (header_of s) s))
 
   marked : length new.marks ≡ length new.addresses
   marked =

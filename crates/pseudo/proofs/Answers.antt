@@ -38,10 +38,10 @@ record Fit (new b : Lists) : Type 0 where
   lines : length new.lines ≤ length b.lines
 
 -- of a line for each one planned
-room-yes : (h : Header) (s : List ℕ) (ls : List (List Token)) (p : List Line) (b : Lists) → length ls ≡ length p
+room_yes : (h : Header) (s : List ℕ) (ls : List (List Token)) (p : List Line) (b : Lists) → length ls ≡ length p
     → room_no (sizes_of (lists_for h s ls p)) (rooms_of b) ≡ 0 → Fit (lists_for h s ls p) b
 unfolding room_no
-room-yes h s ls p b each e =
+room_yes h s ls p b each e =
     let new = lists_for h s ls p in
     let tokens = length new.ends in
     let count = length new.addresses in
@@ -62,8 +62,8 @@ room-yes h s ls p b each e =
       lines = omega (arith, leb-true count (length b.lines) u.1, length-map p (line_address h s), lines_length ls, each);
     }
 
-stands-over : (new old l : List ℕ) → length new ≤ length old → l ≡ put 0 new old → l ≡ over new old
-stands-over new old l h e = e ∙ put_fits 0 new old (omega arith) ∙ rw zero-add
+stands_over : (new old l : List ℕ) → length new ≤ length old → l ≡ put 0 new old → l ≡ over new old
+stands_over new old l h e = e ∙ put_fits 0 new old (omega arith) ∙ rw zero-add
 
 -- a number: nothing was touched
 pub refused : (n : ℕ) (new b : Lists) → (n ≡ 0 → ⊥) → Leaves n new b b (No n)
@@ -76,24 +76,24 @@ stored n new b a d y w =
     rw d
     (record {
       answer = refl;
-      text = stands-over _ _ _ y.text w.text;
-      ends = stands-over _ _ _ y.ends w.ends;
-      kinds = stands-over _ _ _ y.kinds w.kinds;
-      addresses = stands-over _ _ _ y.addresses w.addresses;
-      marks = stands-over _ _ _ y.marks w.marks;
-      places = stands-over _ _ _ y.places w.places;
-      lines = stands-over _ _ _ y.lines w.lines;
+      text = stands_over _ _ _ y.text w.text;
+      ends = stands_over _ _ _ y.ends w.ends;
+      kinds = stands_over _ _ _ y.kinds w.kinds;
+      addresses = stands_over _ _ _ y.addresses w.addresses;
+      marks = stands_over _ _ _ y.marks w.marks;
+      places = stands_over _ _ _ y.places w.places;
+      lines = stands_over _ _ _ y.lines w.lines;
     })
 
 -- ---- of a plan's lines
-pub printed-length : (h : Header) (s : List ℕ) (range mask : ℕ) (p : List Line) → length (printed h s range mask p) ≡ length p
+pub printed_length : (h : Header) (s : List ℕ) (range mask : ℕ) (p : List Line) → length (printed h s range mask p) ≡ length p
 unfolding printed
-printed-length h s range mask [] = refl
-printed-length h s range mask (l ∷ ls) = ap suc (printed-length h s range (mask_after h s mask l.what l.at) ls)
+printed_length h s range mask [] = refl
+printed_length h s range mask (l ∷ ls) = ap suc (printed_length h s range (mask_after h s mask l.what l.at) ls)
 
 -- as many lines as codes
-pub codes-length : (h : Header) (s : List ℕ) (range mask : ℕ) (codes : List ℕ) → length codes ≡ length (printed h s range mask (map line_in codes))
-codes-length h s range mask codes = sym (length-map codes line_in) ∙ sym (printed-length h s range mask (map line_in codes))
+pub codes_length : (h : Header) (s : List ℕ) (range mask : ℕ) (codes : List ℕ) → length codes ≡ length (printed h s range mask (map line_in codes))
+codes_length h s range mask codes = sym (length-map codes line_in) ∙ sym (printed_length h s range mask (map line_in codes))
 
 -- z is the sizes, and n what the questions of room answer
 module _ (h : Header) (s : List ℕ) (range : ℕ) (codes : List ℕ) (b : Lists) (z : Sizes) (n : ℕ)
@@ -108,7 +108,7 @@ module _ (h : Header) (s : List ℕ) (range : ℕ) (codes : List ℕ) (b : Lists
   asked = p ∙ ap (λ (z : Sizes). room_no z (rooms_of b)) q
 
   fits : n ≡ 0 → Fit new b
-  fits o = room-yes h s (printed h s range 0 plan) plan b (printed-length h s range 0 plan) (sym asked ∙ o)
+  fits o = room_yes h s (printed h s range 0 plan) plan b (printed_length h s range 0 plan) (sym asked ∙ o)
 
   -- no question of room gets a no: there is room for the addresses, marks and places
   pub plan_room : n ≡ 0 → (length codes ≤ length b.addresses) × (length codes ≤ length b.marks) × (length codes ≤ length b.places)
@@ -120,11 +120,11 @@ module _ (h : Header) (s : List ℕ) (range : ℕ) (codes : List ℕ) (b : Lists
       )
 
   -- no question of room gets a no: the lists are as long as the listing's
-  pub plan-holds : n ≡ 0 → Holds (listing (printed h s range 0 plan)) b.text b.ends b.kinds b.lines
-  plan-holds o = record { text = (fits o).text; ends = (fits o).ends; kinds = (fits o).kinds; lines = (fits o).lines }
+  pub plan_holds : n ≡ 0 → Holds (listing (printed h s range 0 plan)) b.text b.ends b.kinds b.lines
+  plan_holds o = record { text = (fits o).text; ends = (fits o).ends; kinds = (fits o).kinds; lines = (fits o).lines }
 
-  pub plan-refused : (n ≡ 0 → ⊥) → PlanListed h s range plan b b (No n)
-  plan-refused o = rw (← asked) (refused n new b o)
+  pub plan_refused : (n ≡ 0 → ⊥) → PlanListed h s range plan b b (No n)
+  plan_refused o = rw (← asked) (refused n new b o)
 
-  pub plan-listed : (a : Lists) → n ≡ 0 → Stands new b a → PlanListed h s range plan b a (Listed z)
-  plan-listed a o w = rw (← asked, q) (stored n new b a o (fits o) w)
+  pub plan_listed : (a : Lists) → n ≡ 0 → Stands new b a → PlanListed h s range plan b a (Listed z)
+  plan_listed a o w = rw (← asked, q) (stored n new b a o (fits o) w)

@@ -1,5 +1,5 @@
 -- Demand 3 holds of the listing of every accepted record and range.
--- The plan has it (`record-demand3`); a line that stays has its instruction's address, a mark has its line's indent, and the rows say of
+-- The plan has it (`record_demand3`); a line that stays has its instruction's address, a mark has its line's indent, and the rows say of
 -- silence what the silent list says.
 use Prim.Native.Nat.{ℕ, ◌+◌, ◌-◌, ◌*◌, ◌≤◌, ◌<◌}
 use mathlib.Core.Bool.{Bool, true, false, not, true≢false}
@@ -30,7 +30,7 @@ use Rattle.tokens.proofs.ListingLaws.{lines_length}
 use Rattle.pseudo.specs.Listed.{address_for, line_address, mark_for, line_mark, line_place, record_lines, record_lists}
 use Rattle.pseudo.specs.Called.{Accepted}
 use Rattle.pseudo.specs.Demand.{entries_of, staying, starting, indent_in, NestedBy, RisingBy, ShallowBy, what_of, placed, not_silent, LinesDemand3}
-use Rattle.pseudo.proofs.Answers.{printed-length}
+use Rattle.pseudo.proofs.Answers.{printed_length}
 use Rattle.pseudo.proofs.Calls.{limits, counted as totals, in_range}
 
 -- what a list has for the lines that stay, where an entry is told by the line's place and instruction
@@ -174,6 +174,6 @@ module _ (s : List ℕ) (from to : ℕ) (yes : first_no s from to ≡ 0) where
         few = omega (arith, lines_few, length-map (record_plan h s from to) (line_address h s));
         marked = length-map (record_plan h s from to) line_mark ∙ sym (length-map (record_plan h s from to) (line_address h s));
         placed_lines = length-map (record_plan h s from to) line_place ∙ sym (length-map (record_plan h s from to) (line_address h s));
-        ended = lines_length _ ∙ printed-length h s _ 0 (record_plan h s from to) ∙ sym (length-map (record_plan h s from to) (line_address h s));
+        ended = lines_length _ ∙ printed_length h s _ 0 (record_plan h s from to) ∙ sym (length-map (record_plan h s from to) (line_address h s));
         shallow = shallow_by (h.indent + (to - from)) (record_plan h s from to) low d.shallow;
       }

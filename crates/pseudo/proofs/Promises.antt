@@ -30,7 +30,7 @@ use Rattle.rows.specs.declared.answer.Rooms.{Rooms}
 use Rattle.rows.specs.declared.answer.Answer.{Answer}
 use Rattle.tokens.proofs.Lines.{lines_back}
 use Rattle.line.proofs.LinesShown.{conditions_shown, calls_shown}
-use Rattle.pseudo.proofs.Answers.{printed-length}
+use Rattle.pseudo.proofs.Answers.{printed_length}
 use Rattle.cfg.specs.Graph.{first_in}
 use Rattle.flow.specs.Rows.{block_rows}
 use Rattle.route.specs.Following.{stated_in}
@@ -101,7 +101,7 @@ lines_each : (s : List ℕ) (from to : ℕ) → length (record_lists (header_of 
 unfolding record_lines
 lines_each s from to =
     let h = header_of s in
-    length-map (record_plan h s from to) (line_address h s) ∙ sym (printed-length h s _ 0 (record_plan h s from to))
+    length-map (record_plan h s from to) (line_address h s) ∙ sym (printed_length h s _ 0 (record_plan h s from to))
 
 module _ (s : List ℕ) (from to : ℕ) (b a : Lists) (r : Answer) (c : Called s from to b a r) where
   abbrev rooms : Rooms

@@ -221,13 +221,13 @@ fn reasons_without_a_record() {
     put(&mut file, TEXT + 0x10, &[0xe8, 0x2b, 0, 0, 0, 0xc3]);
     file[TEXT + 2] = 0x90;
     (3..0x10).for_each(|n| file[TEXT + n] = 0x90);
-    let reasons: Vec<String> = routines_of(&file).into_iter().map(|r| r.record.expect_err("no record").to_string()).collect();
+    let why = |reason| match reason {
+        Unrecorded::Limit(why) | Unrecorded::Other(why) => why,
+    };
+    let reasons: Vec<String> = routines_of(&file).into_iter().map(|r| why(r.record.expect_err("no record"))).collect();
     assert_eq!(
         reasons,
-        [
-            "no record: at 401000 a register that a record has no number for: st(0)",
-            "no record: bytes at 401040 that do not decode"
-        ]
+        ["at 401000 a register that a record has no number for: st(0)", "bytes at 401040 that do not decode"].map(String::from)
     );
 }
 

@@ -7,14 +7,14 @@ use Rattle.record.specs.Header.{header_of}
 use Rattle.record.proofs.AskedLaws.{sizes_limits}
 use Rattle.record.proofs.SizeLaws.{size_small}
 use Rattle.columns.proofs.Restored.{record_long, rearranged_is}
-use Rattle.columns.proofs.Answers.{store-yes, stores}
+use Rattle.columns.proofs.Answers.{store_yes, stores}
 use Rattle.columns.proofs.store.store.Goals as goal
 
 pub put_rearranged-requires : goal.put_rearranged-requires
 put_rearranged-requires c =
     let a = c.args in
     let s = a.rec.now in
-    let y = store-yes s (length a.out.now) (sym c.store_no-no.ensures ∙ c.if-no-ne0.false) in
+    let y = store_yes s (length a.out.now) (sym c.store_no-no.ensures ∙ c.if-no-ne0.false) in
     let begins = rw c.read_header.ensures at c.bodies_at-at.ensures.0 in
     let long = record_long s y.0 in
     let small = size_small (header_of s) (sizes_limits s y.0) in
