@@ -7,7 +7,7 @@ mod hostile;
 mod names;
 mod tables;
 
-use super::{record_driver, Routine};
+use super::{record_driver, Routine, Unrecorded};
 use file::{file, file_of, named_file, put, DATA, TEXT};
 
 fn routines_of(file: &[u8]) -> Vec<Routine> {
