@@ -17,7 +17,7 @@ RUST_QUIET = re.compile(r"""b?'(?:\\[^\n]|[^'\\\n])'|b?"(?:[^"\\]|\\.)*"|//[^\n]
 MARK = r"(?:(?:pub|abbrev|unfoldable|pattern|axiom) +)*"
 DECLARED = re.compile(rf"(?m)^ *{MARK}([^\s(){{}}.;,@\"«»]+)(?: \{{[^{{}}\n]*\}})* :(?=\s)")
 SEVERAL = re.compile(rf"(?m)^ *{MARK}((?:[^\s(){{}}.;,@\"«»:]+ +)+[^\s(){{}}.;,@\"«»:]+) :(?=\s)")
-FUNCTION = re.compile(r"/proofs/(?:.*/)?(?:Proof|Answers|Invariants)\.antt$")
+FUNCTION = re.compile(r"/proofs/.+/(?:Proof|Answers|Invariants)\.antt$")
 LIBRARY = re.compile(r"(?m)^ *use ([^\s;{]+?)\.?\{([^}]*)\}")
 
 
