@@ -51,10 +51,8 @@ pub fn turns_last(bodies: &[u8], blocks: &[u16], count: u16) -> bool
     ensures { result ≡ all_below (λ k. not (turns_inside bodies.now blocks.now k)) count }
 {
     let mut ok = true;
-    let mut k: u16 = 0;
-    while k < count {
+    for k in 0..count {
         ok = ok & !turns_inside(bodies, blocks, Place(k));
-        k += 1;
     }
     ok
 }
@@ -70,10 +68,8 @@ pub fn lasts_unmarked(bodies: &[u8], blocks: &[u16], count: u16) -> bool
     ensures { result ≡ all_below (λ k. not (last_marked bodies.now blocks.now k)) count }
 {
     let mut ok = true;
-    let mut k: u16 = 0;
-    while k < count {
+    for k in 0..count {
         ok = ok & !last_marked(bodies, blocks, Place(k));
-        k += 1;
     }
     ok
 }
@@ -95,10 +91,8 @@ pub fn starts_unnamed(rec: &[u8], h: Header) -> bool
     ensures { result ≡ starts_unnamed h rec.now }
 {
     let mut ok = true;
-    let mut k: u16 = 0;
-    while k < h.blocks {
+    for k in 0..h.blocks {
         ok = ok & start_unnamed(rec, h, Place(k));
-        k += 1;
     }
     ok
 }
@@ -118,10 +112,8 @@ pub fn jumps_led(targets: &[u8], kinds: &[u8], bodies: &[u8], blocks: &[u16], co
     ensures { result ≡ all_below (jump_led targets.now kinds.now bodies.now blocks.now) count }
 {
     let mut ok = true;
-    let mut k: u16 = 0;
-    while k < count {
+    for k in 0..count {
         ok = ok & jump_led(targets, kinds, bodies, blocks, Place(k));
-        k += 1;
     }
     ok
 }
@@ -162,10 +154,8 @@ pub fn others_led(
     ensures { result ≡ all_below (other_led targets.now kinds.now bodies.now blocks.now starts.now count) count }
 {
     let mut ok = true;
-    let mut k: u16 = 0;
-    while k < count {
+    for k in 0..count {
         ok = ok & other_led(starts, targets, kinds, bodies, blocks, count, k);
-        k += 1;
     }
     ok
 }
@@ -175,10 +165,8 @@ pub fn branches_inside(blocks: &[u16], count: u16) -> bool
     ensures { result ≡ all_below (branch_inside blocks.now) count }
 {
     let mut ok = true;
-    let mut k: u16 = 0;
-    while k < count {
+    for k in 0..count {
         ok = ok & ((ending_in(blocks, Place(k)) != 2) | (branch_to(blocks, Place(k)).0 != 65535));
-        k += 1;
     }
     ok
 }

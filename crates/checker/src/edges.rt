@@ -37,10 +37,8 @@ pub fn count_of(kinds: &[u8], kind: Kind, e: u16, n: u16) -> u32
     ensures { result ≡ sum_below (λ m. pick (of_kind kind (edge_kind_at kinds.now (e + m))) 1 0) n }
 {
     let mut count: u32 = 0;
-    let mut m: u16 = 0;
-    while m < n {
+    for m in 0..n {
         count += one_of(kinds, kind, e as usize + m as usize);
-        m += 1;
     }
     count
 }
@@ -50,11 +48,9 @@ pub fn lead_to(targets: &[u8], kinds: &[u8], kind: Kind, va: u64, e: u16, n: u16
     ensures { result ≡ all_below (λ m. not (of_kind kind (edge_kind_at kinds.now (e + m))) || eqb (target_at targets.now (e + m)) va) n }
 {
     let mut ok = true;
-    let mut m: u16 = 0;
-    while m < n {
+    for m in 0..n {
         let at = e as usize + m as usize;
         ok = ok & (!is_of(kind, u8_at(kinds, at)) | (u64_at(targets, 8 * at) == va));
-        m += 1;
     }
     ok
 }
@@ -64,10 +60,8 @@ pub fn no_case(kinds: &[u8], edges: u16) -> bool
     ensures { result ≡ all_below (λ e. not (eqb (edge_kind_at kinds.now e) 4)) edges }
 {
     let mut ok = true;
-    let mut e: u16 = 0;
-    while e < edges {
+    for e in 0..edges {
         ok = ok & (u8_at(kinds, e as usize) != 4);
-        e += 1;
     }
     ok
 }

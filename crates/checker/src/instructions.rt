@@ -28,10 +28,8 @@ pub fn none_turns(bodies: &[u8], i: u32, n: u16) -> bool
     ensures { result ≡ all_below (λ m. not (turns (body_at bodies.now (i + m)))) n }
 {
     let mut ok = true;
-    let mut m: u16 = 0;
-    while m < n {
+    for m in 0..n {
         ok = ok & !turns_away(from(bodies, 92 * (i as usize + m as usize)));
-        m += 1;
     }
     ok
 }
@@ -48,10 +46,8 @@ pub fn sets_no_branch(bodies: &[u8], n: u16) -> bool
     ensures { result ≡ all_below (λ i. not (sets_by_condition (mnemonic_of (body_at bodies.now i)) && eqb (operand_kind (body_at bodies.now i) 0) 2)) n }
 {
     let mut ok = true;
-    let mut i: u16 = 0;
-    while i < n {
+    for i in 0..n {
         ok = ok & !sets_to_branch(from(bodies, 92 * i as usize));
-        i += 1;
     }
     ok
 }

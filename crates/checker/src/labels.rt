@@ -11,12 +11,10 @@ use structure::codes::{place_of_line, what_of};
 fn label_stands(codes: &[u64], k: Place) -> bool
     ensures { result ≡ label_stands k.0 (map line_in codes.now) }
 {
-    let mut i = 0;
-    while i < codes.len() {
+    for i in 0..codes.len() {
         if (what_of(codes[i]) == 0) & (place_of_line(codes[i]) == k.0) {
             return true;
         }
-        i += 1;
     }
     false
 }
@@ -35,12 +33,10 @@ fn is_labelled(blocks: &[u16], codes: &[u64], code: u64) -> bool
 pub fn all_labelled(blocks: &[u16], codes: &[u64]) -> bool
     ensures { result ≡ all_labelled blocks.now (map line_in codes.now) }
 {
-    let mut i = 0;
-    while i < codes.len() {
+    for i in 0..codes.len() {
         if !is_labelled(blocks, codes, codes[i]) {
             return false;
         }
-        i += 1;
     }
     true
 }

@@ -17,12 +17,10 @@ pub fn begins_with(t: &[u8], w: &[u8]) -> bool
     if t.len() < w.len() {
         return false;
     }
-    let mut i = 0;
-    while i < w.len() {
+    for i in 0..w.len() {
         if t[i] != w[i] {
             return false;
         }
-        i += 1;
     }
     true
 }
@@ -48,11 +46,9 @@ pub fn entries_plain(pairs: &[u8], texts: &[u8], atlas: u16) -> bool
     ensures { result ≡ all_below (λ k. not (eqb (entry_kind pairs.now k) 3 && begins_loc (entry_text pairs.now texts.now k))) atlas }
 {
     let mut ok = true;
-    let mut k: u16 = 0;
-    while k < atlas {
+    for k in 0..atlas {
         let t = part(texts, text_start(pairs, k), entry_length(pairs, k) as usize);
         ok = ok & !((entry_kind(pairs, k) == 3) & begins_loc(t));
-        k += 1;
     }
     ok
 }
@@ -62,11 +58,9 @@ pub fn mnemonics_plain(bodies: &[u8], n: u16) -> bool
     ensures { result ≡ all_below (λ i. not (eqb (mnemonic_of (body_at bodies.now i)) 0 && begins_loc (name_of (body_at bodies.now i)))) n }
 {
     let mut ok = true;
-    let mut i: u16 = 0;
-    while i < n {
+    for i in 0..n {
         let body = from(bodies, 92 * i as usize);
         ok = ok & !((mnemonic(body) == 0) & begins_loc(from(body, 68)));
-        i += 1;
     }
     ok
 }
@@ -76,11 +70,9 @@ pub fn no_flow_words(bodies: &[u8], n: u16) -> bool
     ensures { result ≡ all_below (λ i. not (eqb (mnemonic_of (body_at bodies.now i)) 0 && is_flow_word (name_of (body_at bodies.now i)))) n }
 {
     let mut ok = true;
-    let mut i: u16 = 0;
-    while i < n {
+    for i in 0..n {
         let body = from(bodies, 92 * i as usize);
         ok = ok & !((mnemonic(body) == 0) & is_flow_word(from(body, 68)));
-        i += 1;
     }
     ok
 }

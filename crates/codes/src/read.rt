@@ -117,12 +117,10 @@ pub fn same_texts(tables: &[u8], rec: &[u8], a: &[u64], b: &[u64], n: usize) -> 
     requires n_value_2 { n ≡ length (spelled (decode tables.now rec.now b.now)) }
     ensures { result ≡ same_word (spelled (decode tables.now rec.now a.now)) (spelled (decode tables.now rec.now b.now)) }
 {
-    let mut j = 0;
-    while j < n {
+    for j in 0..n {
         if byte_at(tables, rec, a, j) != byte_at(tables, rec, b, j) {
             return false;
         }
-        j += 1;
     }
     true
 }

@@ -14,11 +14,9 @@ fn put_column(out: &mut [u8], s: &[u8], to: usize, first: usize, m: usize, n: us
     ensures { out.new ≡ put to (tab (λ i. get_or s.now (first + i * n) 0) 0 m) out.old }
 {
     let mut from = first;
-    let mut i = 0;
-    while i < m {
+    for i in 0..m {
         out[to + i] = s[from];
         from += n;
-        i += 1;
     }
 }
 
@@ -28,11 +26,9 @@ fn put_columns(out: &mut [u8], s: &[u8], at: usize, m: usize, n: usize)
     ensures { out.new ≡ put at (transposed m n (drop at s.now)) out.old }
 {
     let mut to = at;
-    let mut j = 0;
-    while j < n {
+    for j in 0..n {
         put_column(out, s, to, at + j, m, n);
         to += m;
-        j += 1;
     }
 }
 

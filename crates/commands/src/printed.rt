@@ -30,10 +30,8 @@ fn put_pairs(out: &mut [u8], at: usize, s: &[u8]) -> usize
     ensures { Wrote at (pairs s.now) out.old out.new result }
 {
     let mut p = at;
-    let mut i: usize = 0;
-    while i < s.len() {
+    for i in 0..s.len() {
         p = put_pair(out, p, s[i]);
-        i += 1;
     }
     p
 }
@@ -88,10 +86,8 @@ pub fn put_table(out: &mut [u8], bytes: &[u8], rows: &[u64], addresses: &[u64], 
     ensures text { out.new ≡ put 0 (table_text (table_lists bytes.now rows.now addresses.now) n) out.old }
 {
     let mut p: usize = 0;
-    let mut j: usize = 0;
-    while j < n {
+    for j in 0..n {
         p = put_row_line(out, p, bytes, rows, addresses, j);
-        j += 1;
     }
     p
 }

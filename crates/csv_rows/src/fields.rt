@@ -30,10 +30,8 @@ fn put_doubled(out: &mut [u8], at: usize, s: &[u8]) -> usize
     ensures { Wrote at (doubled s.now) out.old out.new result }
 {
     let mut p = at;
-    let mut i: usize = 0;
-    while i < s.len() {
+    for i in 0..s.len() {
         p = put_char(out, p, s[i]);
-        i += 1;
     }
     p
 }

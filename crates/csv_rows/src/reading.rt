@@ -25,15 +25,13 @@ fn measure(s: &[u8]) -> Count
     let mut x: usize = 0;
     let mut n: usize = 0;
     let mut l: usize = 0;
-    let mut i: usize = 0;
-    while i < s.len() {
+    for i in 0..s.len() {
         let c = s[i];
         let k = number_of(effect_of(t, c));
         x = plus(x, k == 1);
         n = plus(n, k == 3);
         l = plus(l, k == 5);
         t = next(t, c);
-        i += 1;
     }
     Count {
         ok: is_start(t),
@@ -65,8 +63,7 @@ fn fill(
     let mut x: usize = 0;
     let mut n: usize = 0;
     let mut l: usize = 0;
-    let mut i: usize = 0;
-    while i < s.len() {
+    for i in 0..s.len() {
         let c = s[i];
         let e = effect_of(t, c);
         let k = number_of(e);
@@ -79,7 +76,6 @@ fn fill(
         n = plus(n, k == 3);
         l = plus(l, k == 5);
         t = next(t, c);
-        i += 1;
     }
 }
 

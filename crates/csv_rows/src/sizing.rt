@@ -20,10 +20,8 @@ fn doubled_size(s: &[u8]) -> usize
     ensures { (result ≡ length (doubled s.now)) × (result ≤ 2 * length s.now) }
 {
     let mut n: usize = 0;
-    let mut i: usize = 0;
-    while i < s.len() {
+    for i in 0..s.len() {
         n += char_size(s[i]);
-        i += 1;
     }
     n
 }
@@ -44,10 +42,8 @@ fn frames_size(marks: &[u16], places: &[u16], m: usize) -> usize
     ensures { (result ≡ frames_size marks.now places.now m) × (result ≤ 30 * m) }
 {
     let mut n: usize = 0;
-    let mut i: usize = 0;
-    while i < m {
+    for i in 0..m {
         n += frame_size(u16_in(marks, i), u16_in(places, i));
-        i += 1;
     }
     n
 }

@@ -46,13 +46,11 @@ fn put_tokens(
 {
     let mut p = at;
     let mut x = end_at(ends, n);
-    let mut j = n;
-    while j < m {
+    for j in n..m {
         let y = end_at(ends, j + 1);
         let s = text_between(text, x, y);
         p = put_token(out, p, u8_at(kinds, j), s);
         x = y;
-        j += 1;
     }
     p
 }
@@ -93,8 +91,7 @@ fn put_rows(
 {
     let mut p: usize = 0;
     let mut n: usize = 0;
-    let mut i: usize = 0;
-    while i < m {
+    for i in 0..m {
         let e = end_at(lines, i + 1);
         let mark = u16_in(marks, i);
         let address = u64_in(addresses, i);
@@ -102,7 +99,6 @@ fn put_rows(
         let q = put_head(out, p, mark, address, place);
         p = put_line(out, q, text, ends, kinds, n, e);
         n = e;
-        i += 1;
     }
 }
 

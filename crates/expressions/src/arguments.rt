@@ -74,10 +74,8 @@ fn register_arguments(codes: &mut [u64], tables: &[u8], convention: u16, mask: u
     ensures { (s : List ℕ) → Coded tables.now s codes.old codes.new (register_arguments convention mask) }
 {
     let n = argument_count(convention, mask);
-    let mut k: u8 = 0;
-    while k < n {
+    for k in 0..n {
         code_nth(codes, tables, convention, k);
-        k += 1;
     }
 }
 

@@ -127,15 +127,13 @@ pub fn block_rows(rec: &[u8], h: Header, out: &mut [u16])
     let marks = from(rec, marks_at(h));
     let mut first: u16 = 0;
     let mut edge: u16 = 0;
-    let mut k: u16 = 0;
-    while k < h.blocks {
+    for k in 0..h.blocks {
         let n = instructions_in(marks, Place(k));
         let m = edges_in(marks, Place(k)) as u16;
         put_four(out, 8 * size(k), first, n, edge, m);
         put_ending(rec, h, rises, k, first, n, out);
         first += n;
         edge += m;
-        k += 1;
     }
 }
 
@@ -145,11 +143,9 @@ pub fn edge_rows(rec: &[u8], h: Header, out: &mut [u16])
     let rises = rises_in(rec, h);
     let targets = from(rec, targets_at(h));
     let kinds = from(rec, edge_kinds_at(h));
-    let mut e: u16 = 0;
-    while e < h.edges {
+    for e in 0..h.edges {
         let to = place_of(rec, h, rises, target_at(targets, e));
         put_two(out, 2 * size(e), to.0, edge_kind_at(kinds, e) as u16);
-        e += 1;
     }
 }
 
@@ -181,13 +177,11 @@ pub fn shown_rows(isa: &[u8], rec: &[u8], h: Header, out: &mut [u8])
     let table = class_table();
     let classes: &[u8] = &table;
     let bodies = from(rec, bodies_at(h));
-    let mut i: u16 = 0;
-    while i < h.instructions {
+    for i in 0..h.instructions {
         store(
             out,
             size(i),
             shown_of(isa, classes, h.bits, h.frame, body_at(bodies, i)),
         );
-        i += 1;
     }
 }

@@ -134,8 +134,7 @@ fn main(rt: HostRuntime) {
         &rt.stderr(),
     );
     let mut out = [0u8; 1318156];
-    let mut p = 0;
-    while p < 11 {
+    for p in 0..11 {
         let m = answer(part(&rows, 0, n), p, &mut out);
         if m == 0 {
             return;
@@ -146,6 +145,5 @@ fn main(rt: HostRuntime) {
                 .write_all(b"from_csv: standard output cannot be written\n");
             return;
         }
-        p += 1;
     }
 }

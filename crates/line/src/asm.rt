@@ -22,12 +22,10 @@ use tokens::words::SPACE;
 fn name_length(name: &[u8]) -> usize
     ensures { result ≡ name_length name.now }
 {
-    let mut k: usize = 0;
-    while k < 24 {
+    for k in 0..24 {
         if u8_at(name, k) == 0 {
             return k;
         }
-        k += 1;
     }
     24
 }
@@ -59,10 +57,8 @@ fn code_operands(codes: &mut [u64], tables: &[u8], rec: &[u8], h: Header, body: 
     ensures { Coded tables.now rec.now codes.old codes.new (assembled h rec.now body.now false 0 (operand_count body.now)) }
 {
     let n = op_count(body);
-    let mut i: u8 = 0;
-    while i < n {
+    for i in 0..n {
         code_listed(codes, tables, rec, h, body, i, 0 < i);
-        i += 1;
     }
 }
 

@@ -135,11 +135,9 @@ pub fn code_lines(
     ensures { CodedLines tables.now rec.now codes.old codes.new (printed h rec.now range written (map line_in plan.now)) }
 {
     let mut mask: u16 = written;
-    let mut i = 0;
-    while i < plan.len() {
+    for i in 0..plan.len() {
         let code = plan[i];
         code_line(codes, tables, rec, h, rows, blocks, range, mask, code);
         mask = mask_after(tables, rec, h, mask, code);
-        i += 1;
     }
 }

@@ -168,12 +168,10 @@ pub fn returns_value(isa: &[u8], bodies: &[u8], first: u16, i: u16) -> bool
     requires { isa.now ≡ isa_bytes }
     ensures { result ≡ returns_value bodies.now first i }
 {
-    let mut k: u16 = 0;
-    while k < 6 {
+    for k in 0..6 {
         if value_before(isa, bodies, first, i, k) {
             return true;
         }
-        k += 1;
     }
     false
 }

@@ -230,8 +230,7 @@ pub fn code_row(
     ensures { Coded tables.now rec.now codes.old codes.new (pieces_tokens h rec.now site (map piece_of (codes_of form))) }
 {
     let pieces = row_codes(rows, form);
-    let mut i = 0;
-    while i < pieces.len() {
+    for i in 0..pieces.len() {
         let piece = pieces[i];
         if piece < 102 {
             code_word(codes, tables, piece);
@@ -242,7 +241,6 @@ pub fn code_row(
                 code_special(codes, tables, rec, h, site, body, piece);
             }
         }
-        i += 1;
     }
 }
 
@@ -287,14 +285,12 @@ pub fn code_frame(
     ensures { Coded tables.now rec.now codes.old codes.new (pieces_tokens h rec.now site (map piece_of (codes_of form))) }
 {
     let pieces = row_codes(rows, form);
-    let mut i = 0;
-    while i < pieces.len() {
+    for i in 0..pieces.len() {
         let piece = pieces[i];
         if piece < 102 {
             code_word(codes, tables, piece);
         } else {
             code_piece(codes, tables, rec, h, site, body, piece);
         }
-        i += 1;
     }
 }

@@ -30,12 +30,10 @@ fn plain_span(spans: &[u8], n: u16, va: u64) -> bool
     ensures { result ≡ any_below (λ k. leb (span_first spans.now k) va && leb va (span_last spans.now k)) n }
 {
     let e = n as usize;
-    let mut k: usize = 0;
-    while k < e {
+    for k in 0..e {
         if (plain_u64(spans, 16 * k) <= va) & (va <= plain_u64(spans, 16 * k + 8)) {
             return true;
         }
-        k += 1;
     }
     false
 }
@@ -49,12 +47,10 @@ pub fn in_span(rec: &[u8], h: Header, va: u64) -> bool
     if 16 * n as usize <= spans.len() {
         return plain_span(spans, n, va);
     }
-    let mut k: u16 = 0;
-    while k < n {
+    for k in 0..n {
         if (span_first(spans, k) <= va) & (va <= span_last(spans, k)) {
             return true;
         }
-        k += 1;
     }
     false
 }

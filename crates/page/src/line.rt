@@ -12,10 +12,8 @@ fn put_run(out: &mut [u8], at: usize, n: usize, b: u8)
     requires { at + n ≤ 2 ^ 32 }
     ensures { out.new ≡ put at (replicate n b) out.old }
 {
-    let mut i = 0;
-    while i < n {
+    for i in 0..n {
         store(out, at + i, b);
-        i += 1;
     }
 }
 

@@ -70,13 +70,11 @@ pub fn put_lines(
     let last = i + k;
     let mut start = lines_end(ends, lines, i);
     let mut p = at;
-    let mut j = i;
-    while j < last {
+    for j in i..last {
         let end = tokens_end(ends, u32_in(lines, j));
         let bytes = between(text, start, end);
         p = put_line(out, p, u16_in(marks, j), u64_in(addresses, j), bytes);
         start = end;
-        j += 1;
     }
     p
 }

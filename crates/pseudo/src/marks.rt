@@ -54,12 +54,10 @@ pub fn put_marks(
     ensures marks { marks.new ≡ put 0 (map line_mark (map line_in codes.now)) marks.old }
     ensures places { places.new ≡ put 0 (map line_place (map line_in codes.now)) places.old }
 {
-    let mut i = 0;
-    while i < codes.len() {
+    for i in 0..codes.len() {
         let code = codes[i];
         addresses[i] = line_address(rec, h, code);
         marks[i] = line_mark(code);
         places[i] = place_of_line(code);
-        i += 1;
     }
 }

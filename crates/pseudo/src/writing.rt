@@ -78,8 +78,7 @@ fn write_turns(
         lines: 0,
     };
     let mut mask: u16 = 0;
-    let mut i = 0;
-    while i < plan.len() {
+    for i in 0..plan.len() {
         p = write_part(
             text,
             ends,
@@ -97,7 +96,6 @@ fn write_turns(
             &plan[i..i + 1],
         );
         mask = mask_after(tables, rec, h, mask, plan[i]);
-        i += 1;
     }
 }
 

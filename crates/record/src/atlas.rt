@@ -36,12 +36,10 @@ fn entries_ok(entries: &[u8], pairs: &[u8], atlas: u16) -> bool
 {
     let mut before = entry_address(entries, 0);
     let mut ok = true;
-    let mut k: u16 = 0;
-    while k < atlas {
+    for k in 0..atlas {
         let a = entry_address(entries, k);
         ok = ok & (((k == 0) | (before < a)) & entry_kind_ok(entry_kind(pairs, k)));
         before = a;
-        k += 1;
     }
     ok
 }
@@ -52,10 +50,8 @@ fn plain_start(pairs: &[u8], k: usize) -> u32
     ensures { result ≡ text_start pairs.now k }
 {
     let mut sum: u32 = 0;
-    let mut i: usize = 0;
-    while i < k {
+    for i in 0..k {
         sum += pairs[2 * i + 1] as u32;
-        i += 1;
     }
     sum
 }
@@ -68,10 +64,8 @@ pub fn text_start(pairs: &[u8], k: u16) -> usize
         return plain_start(pairs, k as usize) as usize;
     }
     let mut sum: usize = 0;
-    let mut i: u16 = 0;
-    while i < k {
+    for i in 0..k {
         sum += entry_length(pairs, i) as usize;
-        i += 1;
     }
     sum
 }
@@ -91,11 +85,9 @@ fn plain_name_ok(text: &[u8], n: usize) -> bool
     ensures { result ≡ all_below (λ j. leb 0x20 (u8_at text.now j) && leb (u8_at text.now j) 0x7e) n }
 {
     let mut ok = true;
-    let mut j: usize = 0;
-    while j < n {
+    for j in 0..n {
         let c = text[j];
         ok = ok & ((0x20 <= c) & (c <= 0x7e));
-        j += 1;
     }
     ok
 }
@@ -106,10 +98,8 @@ fn plain_string_ok(text: &[u8], n: usize) -> bool
     ensures { result ≡ all_below (λ j. ltb (u8_at text.now j) 0x80) n }
 {
     let mut ok = true;
-    let mut j: usize = 0;
-    while j < n {
+    for j in 0..n {
         ok = ok & (text[j] < 0x80);
-        j += 1;
     }
     ok
 }
@@ -133,10 +123,8 @@ fn text_ok(kind: u8, n: u8, text: &[u8]) -> bool
         return plain_text_ok(kind, n, text);
     }
     let mut ok = true;
-    let mut j: u8 = 0;
-    while j < n {
+    for j in 0..n {
         ok = ok & text_byte_ok(kind, u8_at(text, j as usize));
-        j += 1;
     }
     ((kind != 3) | (1 <= n)) & ok
 }
@@ -146,12 +134,10 @@ fn texts_ok(pairs: &[u8], texts: &[u8], atlas: u16) -> bool
 {
     let mut at: usize = 0;
     let mut ok = true;
-    let mut k: u16 = 0;
-    while k < atlas {
+    for k in 0..atlas {
         let n = entry_length(pairs, k);
         ok = ok & text_ok(entry_kind(pairs, k), n, from(texts, at));
         at += n as usize;
-        k += 1;
     }
     ok
 }
@@ -185,10 +171,8 @@ pub fn spans_ok(spans: &[u8], count: u16) -> bool
     ensures { result ≡ spans_ok spans.now count }
 {
     let mut ok = true;
-    let mut k: u16 = 0;
-    while k < count {
+    for k in 0..count {
         ok = ok & (span_first(spans, k) <= span_last(spans, k));
-        k += 1;
     }
     ok
 }

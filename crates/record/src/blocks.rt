@@ -86,12 +86,10 @@ pub fn marks_ok(marks: &[u8], blocks: u16, instructions: u16, edges: u16) -> boo
     let mut total: u64 = 0;
     let mut sum: u64 = 0;
     let mut ok = true;
-    let mut k: u16 = 0;
-    while k < blocks {
+    for k in 0..blocks {
         total += instructions_in(marks, Place(k)) as u64;
         sum += edges_in(marks, Place(k)) as u64;
         ok = ok & (label_mark(marks, Place(k)) <= 1);
-        k += 1;
     }
     (total == instructions as u64) & (sum == edges as u64) & ok
 }
@@ -114,12 +112,10 @@ pub fn starts_rise(starts: &[u8], blocks: u16) -> bool
 {
     let mut before = start_at(starts, Place(0));
     let mut ok = true;
-    let mut k: u16 = 0;
-    while k < blocks {
+    for k in 0..blocks {
         let x = start_at(starts, Place(k));
         ok = ok & ((k == 0) | is_below(before, x));
         before = x;
-        k += 1;
     }
     ok
 }
@@ -131,12 +127,10 @@ pub fn starts_differ(starts: &[u8], blocks: u16) -> bool
     if starts_rise(starts, blocks) {
         return true;
     }
-    let mut k: u16 = 0;
-    while k < blocks {
+    for k in 0..blocks {
         if !start_is_new(starts, k) {
             return false;
         }
-        k += 1;
     }
     true
 }
@@ -146,10 +140,8 @@ pub fn edge_kinds_ok(kinds: &[u8], edges: u16) -> bool
     ensures { result ≡ edge_kinds_ok kinds.now edges }
 {
     let mut ok = true;
-    let mut e: u16 = 0;
-    while e < edges {
+    for e in 0..edges {
         ok = ok & (edge_kind_at(kinds, e) <= 4);
-        e += 1;
     }
     ok
 }

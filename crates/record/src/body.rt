@@ -157,12 +157,10 @@ fn is_name(name: &[u8]) -> bool
     let first = u8_at(name, 0);
     let mut before = first;
     let mut ok = true;
-    let mut k: usize = 0;
-    while k < 23 {
+    for k in 0..23 {
         let c = u8_at(name, k + 1);
         ok = ok & ((c == 0) | (name_byte(c) & (before != 0)));
         before = c;
-        k += 1;
     }
     name_byte(first) & ok
 }
@@ -179,10 +177,8 @@ fn operands_ok(missing: &[u8], body: &[u8]) -> bool
     ensures { result ≡ operands_ok body.now }
 {
     let mut ok = true;
-    let mut i: u8 = 0;
-    while i < 5 {
+    for i in 0..5 {
         ok = ok & operand_ok(missing, body, i);
-        i += 1;
     }
     ok
 }
@@ -241,12 +237,10 @@ fn plain_name(name: &[u8]) -> bool
     let first = plain_u8(name, 0);
     let mut before = first;
     let mut ok = true;
-    let mut k: usize = 0;
-    while k < 23 {
+    for k in 0..23 {
         let c = plain_u8(name, k + 1);
         ok = ok & ((c == 0) | (name_byte(c) & (before != 0)));
         before = c;
-        k += 1;
     }
     name_byte(first) & ok
 }
@@ -279,12 +273,10 @@ fn plain_bodies_ok(bodies: &[u8], instructions: u16) -> bool
 {
     let table = missing_table();
     let missing: &[u8] = &table;
-    let mut i: u16 = 0;
-    while i < instructions {
+    for i in 0..instructions {
         if !plain_body_ok(missing, body_at(bodies, i)) {
             return false;
         }
-        i += 1;
     }
     true
 }
@@ -299,10 +291,8 @@ pub fn bodies_ok(bodies: &[u8], instructions: u16) -> bool
     let table = missing_table();
     let missing: &[u8] = &table;
     let mut ok = true;
-    let mut i: u16 = 0;
-    while i < instructions {
+    for i in 0..instructions {
         ok = ok & body_ok(missing, body_at(bodies, i));
-        i += 1;
     }
     ok
 }

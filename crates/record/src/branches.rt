@@ -23,10 +23,8 @@ fn true_count(kinds: &[u8], e: u32, n: u8) -> u16
     ensures { result ≡ true_count kinds.now e n }
 {
     let mut count: u16 = 0;
-    let mut m: u8 = 0;
-    while m < n {
+    for m in 0..n {
         count += true_at(kinds, e as usize + m as usize);
-        m += 1;
     }
     count
 }
@@ -36,11 +34,9 @@ fn true_lead(targets: &[u8], kinds: &[u8], va: u64, e: u32, n: u8) -> bool
     ensures { result ≡ true_lead targets.now kinds.now va e n }
 {
     let mut ok = true;
-    let mut m: u8 = 0;
-    while m < n {
+    for m in 0..n {
         let at = e as usize + m as usize;
         ok = ok & ((u8_at(kinds, at) != 1) | (u64_at(targets, 8 * at) == va));
-        m += 1;
     }
     ok
 }
@@ -73,15 +69,13 @@ pub fn branches_ok(targets: &[u8], kinds: &[u8], marks: &[u8], bodies: &[u8], bl
     let mut ok = true;
     let mut e: u32 = 0;
     let mut i: u32 = 0;
-    let mut k: u16 = 0;
-    while k < blocks {
+    for k in 0..blocks {
         let c = instructions_in(marks, Place(k));
         let n = edges_in(marks, Place(k));
         let last = last_of(bodies, i, c);
         ok = ok & branch_agrees(targets, kinds, last, c, e, n);
         e += n as u32;
         i += c as u32;
-        k += 1;
     }
     ok
 }

@@ -23,12 +23,10 @@ fn plain_first(numbers: &[u8], count: u16, x: u64) -> Found
     ensures { result ≡ find_from numbers.now x 0 count }
 {
     let n = count as usize;
-    let mut k: usize = 0;
-    while k < n {
+    for k in 0..n {
         if plain_u64(numbers, 8 * k) == x {
             return Found::At(k as u16);
         }
-        k += 1;
     }
     Found::Nothing
 }
@@ -40,12 +38,10 @@ pub fn first_of(numbers: &[u8], count: u16, x: u64) -> Found
     if 8 * count as usize <= numbers.len() {
         return plain_first(numbers, count, x);
     }
-    let mut k: u16 = 0;
-    while k < count {
+    for k in 0..count {
         if number_at(numbers, k) == x {
             return Found::At(k);
         }
-        k += 1;
     }
     Found::Nothing
 }

@@ -23,10 +23,8 @@ fn sum_u8(s: &[u8]) -> u64
     ensures { result ≡ sum_from 1 s.now }
 {
     let mut h: u64 = 1;
-    let mut i = 0;
-    while i < s.len() {
+    for i in 0..s.len() {
         h = next(h, s[i] as u64);
-        i += 1;
     }
     h
 }
@@ -35,10 +33,8 @@ fn sum_u16(s: &[u16]) -> u64
     ensures { result ≡ sum_from 1 s.now }
 {
     let mut h: u64 = 1;
-    let mut i = 0;
-    while i < s.len() {
+    for i in 0..s.len() {
         h = next(h, s[i] as u64);
-        i += 1;
     }
     h
 }
@@ -47,10 +43,8 @@ fn sum_u32(s: &[u32]) -> u64
     ensures { result ≡ sum_from 1 s.now }
 {
     let mut h: u64 = 1;
-    let mut i = 0;
-    while i < s.len() {
+    for i in 0..s.len() {
         h = next(h, s[i] as u64);
-        i += 1;
     }
     h
 }
@@ -59,10 +53,8 @@ fn sum_u64(s: &[u64]) -> u64
     ensures { result ≡ wide_from 1 s.now }
 {
     let mut h: u64 = 1;
-    let mut i = 0;
-    while i < s.len() {
+    for i in 0..s.len() {
         h = next(next(h, s[i] % 4294967296), s[i] / 4294967296);
-        i += 1;
     }
     h
 }

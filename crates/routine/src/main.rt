@@ -26,12 +26,10 @@ fn says(s: &[u8], k: u16) -> bool
 fn number_in(s: &[u8]) -> u16
     ensures { (result ≤ 276) × (result < 276 → Says s.now result) × ((k : ℕ) → k < result → Says s.now k → ⊥) }
 {
-    let mut k = 0;
-    while k < 276 {
+    for k in 0..276 {
         if says(s, k) {
             return k;
         }
-        k += 1;
     }
     276
 }

@@ -17,10 +17,8 @@ fn edges_of(k: usize) -> usize
 {
     let n = blocks_of(k);
     let mut edges = 0;
-    let mut j = 0;
-    while j < n {
+    for j in 0..n {
         edges += edges_in(ending_at(k, j));
-        j += 1;
     }
     edges
 }
@@ -59,10 +57,8 @@ fn put_array(out: &mut [u8], at: usize, a: usize, k: usize) -> usize
 {
     let n = blocks_of(k);
     let mut next = at;
-    let mut j = 0;
-    while j < n {
+    for j in 0..n {
         next = put_entry(out, next, a, j, ending_at(k, j));
-        j += 1;
     }
     next
 }
@@ -73,10 +69,8 @@ fn put_record(out: &mut [u8], k: usize)
     ensures { out.new ≡ put 0 (record_of (routine_at k)) out.old }
 {
     let mut next = put_header(out, blocks_of(k), edges_of(k));
-    let mut a = 0;
-    while a < 6 {
+    for a in 0..6 {
         next = put_array(out, next, a, k);
-        a += 1;
     }
 }
 

@@ -19,12 +19,10 @@ fn fill(t: &[u8], n: usize, out: &mut [u8])
     ensures { Filled t.now n out.old out.new }
 {
     let mut i: usize = 0;
-    let mut k: usize = 0;
-    while k < n {
+    for k in 0..n {
         let c = first(from(t, i));
         store(out, k, c.byte);
         i += c.size;
-        k += 1;
     }
 }
 

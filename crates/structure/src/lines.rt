@@ -66,11 +66,9 @@ pub fn shown_lines(
     ensures { Stored out.old at (codes (shown_lines shown.now k.0 first n indent)) result out.new }
 {
     let end = first + n;
-    let mut i = first;
     let mut next = at;
-    while i < end {
+    for i in first..end {
         next = shown_line(shown, k, i, indent, out, next);
-        i += 1;
     }
     next
 }

@@ -34,9 +34,8 @@ fn flat_lines(
     ensures { Stored out.old at (codes (flat_lines blocks.now shown.now i.0 j.0 i.0 (j.0 - i.0) indent)) result out.new }
 {
     let last = j.0;
-    let mut k = i.0;
     let mut next = at;
-    while k < last {
+    for k in i.0..last {
         let wanted = inner_labelled(blocks, i, Place(k));
         next = emit_block(
             blocks,
@@ -48,7 +47,6 @@ fn flat_lines(
             out,
             next,
         );
-        k += 1;
     }
     next
 }

@@ -194,16 +194,14 @@ fn inside_byte(s: &[u8], j: usize) -> u8
     ensures { result ≡ get_or (escapes (take 80 s.now) ++ closing (ltb 80 (length s.now))) j 0 }
 {
     let n = within(80, s.len());
-    let mut i = 0;
     let mut k = j;
-    while i < n {
+    for i in 0..n {
         let b = s[i];
         let m = escape_length(b);
         if k < m {
             return escape_byte(b, k);
         }
         k -= m;
-        i += 1;
     }
     closing_byte(80 < s.len(), k)
 }

@@ -49,11 +49,9 @@ fn escapes_length(s: &[u8]) -> usize
     ensures { (result ≡ length (escapes (take 80 s.now))) × (result ≤ 480) }
 {
     let n = within(80, s.len());
-    let mut i = 0;
     let mut sum: usize = 0;
-    while i < n {
+    for i in 0..n {
         sum += escape_length(s[i]);
-        i += 1;
     }
     sum
 }

@@ -7,6 +7,3 @@ use Rattle.from_csv.proofs.main.Given as goal
 
 abbrev pub invariant-loop-p : goal.invariant-loop-p
 invariant-loop-p l = length l.out ≡ 1318156
-
-abbrev pub decreases-loop-p : goal.decreases-loop-p
-decreases-loop-p l = 11 - l.p

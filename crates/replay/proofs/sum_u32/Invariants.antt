@@ -8,6 +8,3 @@ use Rattle.replay.proofs.sum_u32.Given as goal
 
 abbrev pub invariant-loop-i : goal.invariant-loop-i
 invariant-loop-i l = (l.i ≤ length l.s) × (l.h < 4294967311) × (sum_from l.h (drop l.i l.s) ≡ sum_from 1 l.s)
-
-abbrev pub decreases-loop-i : goal.decreases-loop-i
-decreases-loop-i l = length l.s - l.i

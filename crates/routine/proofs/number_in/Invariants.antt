@@ -6,6 +6,3 @@ use Rattle.routine.proofs.number_in.Given as goal
 
 abbrev pub invariant-loop-k : goal.invariant-loop-k
 invariant-loop-k l = (l.k ≤ 276) × ((j : ℕ) → j < l.k → Says l.s j → ⊥)
-
-abbrev pub decreases-loop-k : goal.decreases-loop-k
-decreases-loop-k l = 276 - l.k

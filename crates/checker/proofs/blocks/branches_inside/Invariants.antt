@@ -9,6 +9,3 @@ use Rattle.checker.proofs.blocks.branches_inside.Given as goal
 abbrev pub invariant-loop-k : goal.invariant-loop-k
 invariant-loop-k l =
     (l.k ≤ l.count) × (l.ok ≡ all_below (branch_inside l.blocks) l.k)
-
-abbrev pub decreases-loop-k : goal.decreases-loop-k
-decreases-loop-k l = l.count - l.k

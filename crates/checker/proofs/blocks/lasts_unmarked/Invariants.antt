@@ -10,6 +10,3 @@ use Rattle.checker.proofs.blocks.lasts_unmarked.Given as goal
 abbrev pub invariant-loop-k : goal.invariant-loop-k
 invariant-loop-k l =
     (l.k ≤ l.count) × (l.ok ≡ all_below (λ j. not (last_marked l.bodies l.blocks j)) l.k)
-
-abbrev pub decreases-loop-k : goal.decreases-loop-k
-decreases-loop-k l = l.count - l.k

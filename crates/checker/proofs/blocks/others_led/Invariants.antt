@@ -9,6 +9,3 @@ use Rattle.checker.proofs.blocks.others_led.Given as goal
 abbrev pub invariant-loop-k : goal.invariant-loop-k
 invariant-loop-k l =
     (l.k ≤ l.count) × (l.ok ≡ all_below (other_led l.targets l.kinds l.bodies l.blocks l.starts l.count) l.k)
-
-abbrev pub decreases-loop-k : goal.decreases-loop-k
-decreases-loop-k l = l.count - l.k

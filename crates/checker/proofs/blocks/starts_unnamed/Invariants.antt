@@ -12,6 +12,3 @@ use Rattle.checker.proofs.blocks.starts_unnamed.Given as goal
 abbrev pub invariant-loop-k : goal.invariant-loop-k
 invariant-loop-k l =
     (l.k ≤ l.h.blocks) × (l.ok ≡ all_below (λ j. is_nothing (entry_at l.h l.rec (start_at (starts_of l.h l.rec) j))) l.k)
-
-abbrev pub decreases-loop-k : goal.decreases-loop-k
-decreases-loop-k l = l.h.blocks - l.k

@@ -10,6 +10,3 @@ use Rattle.checker.proofs.blocks.turns_last.Given as goal
 abbrev pub invariant-loop-k : goal.invariant-loop-k
 invariant-loop-k l =
     (l.k ≤ l.count) × (l.ok ≡ all_below (λ j. not (turns_inside l.bodies l.blocks j)) l.k)
-
-abbrev pub decreases-loop-k : goal.decreases-loop-k
-decreases-loop-k l = l.count - l.k

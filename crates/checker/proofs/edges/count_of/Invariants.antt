@@ -10,6 +10,3 @@ use Rattle.checker.proofs.edges.count_of.Given as goal
 abbrev pub invariant-loop-m : goal.invariant-loop-m
 invariant-loop-m l =
     (l.m ≤ l.n) × (l.count ≤ l.m) × (l.count ≡ sum_below (λ j. pick (of_kind l.kind (edge_kind_at l.kinds (l.e + j))) 1 0) l.m)
-
-abbrev pub decreases-loop-m : goal.decreases-loop-m
-decreases-loop-m l = l.n - l.m

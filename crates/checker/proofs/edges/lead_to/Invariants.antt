@@ -12,6 +12,3 @@ use Rattle.checker.proofs.edges.lead_to.Given as goal
 abbrev pub invariant-loop-m : goal.invariant-loop-m
 invariant-loop-m l =
     (l.m ≤ l.n) × (l.ok ≡ all_below (λ j. not (of_kind l.kind (edge_kind_at l.kinds (l.e + j))) || eqb (target_at l.targets (l.e + j)) l.va) l.m)
-
-abbrev pub decreases-loop-m : goal.decreases-loop-m
-decreases-loop-m l = l.n - l.m

@@ -11,6 +11,3 @@ use Rattle.checker.proofs.edges.no_case.Given as goal
 abbrev pub invariant-loop-e : goal.invariant-loop-e
 invariant-loop-e l =
     (l.e ≤ l.edges) × (l.ok ≡ all_below (λ j. not (eqb (edge_kind_at l.kinds j) 4)) l.e)
-
-abbrev pub decreases-loop-e : goal.decreases-loop-e
-decreases-loop-e l = l.edges - l.e

@@ -11,6 +11,3 @@ use Rattle.checker.proofs.instructions.none_turns.Given as goal
 abbrev pub invariant-loop-m : goal.invariant-loop-m
 invariant-loop-m l =
     (l.m ≤ l.n) × (l.ok ≡ all_below (λ j. not (turns (body_at l.bodies (l.i + j)))) l.m)
-
-abbrev pub decreases-loop-m : goal.decreases-loop-m
-decreases-loop-m l = l.n - l.m

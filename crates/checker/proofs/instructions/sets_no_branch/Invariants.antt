@@ -11,6 +11,3 @@ use Rattle.checker.proofs.instructions.sets_no_branch.Given as goal
 abbrev pub invariant-loop-i : goal.invariant-loop-i
 invariant-loop-i l =
     (l.i ≤ l.n) × (l.ok ≡ all_below (λ j. not (sets_by_condition (mnemonic_of (body_at l.bodies j)) && eqb (operand_kind (body_at l.bodies j) 0) 2)) l.i)
-
-abbrev pub decreases-loop-i : goal.decreases-loop-i
-decreases-loop-i l = l.n - l.i

@@ -11,6 +11,3 @@ use Rattle.checker.proofs.labels.all_labelled.Given as goal
 
 abbrev pub invariant-loop-i : goal.invariant-loop-i
 invariant-loop-i l = (l.i ≤ length l.codes) × (all_labelled l.blocks (map line_in l.codes) ≡ labelled_from l.blocks (map line_in l.codes) l.codes l.i)
-
-abbrev pub decreases-loop-i : goal.decreases-loop-i
-decreases-loop-i l = length l.codes - l.i

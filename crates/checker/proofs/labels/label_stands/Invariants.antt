@@ -10,6 +10,3 @@ use Rattle.checker.proofs.labels.label_stands.Given as goal
 
 abbrev pub invariant-loop-i : goal.invariant-loop-i
 invariant-loop-i l = (l.i ≤ length l.codes) × (label_stands l.k.0 (map line_in l.codes) ≡ label_stands l.k.0 (map line_in (drop l.i l.codes)))
-
-abbrev pub decreases-loop-i : goal.decreases-loop-i
-decreases-loop-i l = length l.codes - l.i

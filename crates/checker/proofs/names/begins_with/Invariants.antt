@@ -8,6 +8,3 @@ use Rattle.checker.proofs.names.begins_with.Given as goal
 
 abbrev pub invariant-loop-i : goal.invariant-loop-i
 invariant-loop-i l = (l.i ≤ length l.w) × (length l.w ≤ length l.t) × (begins l.t l.w ≡ begins (drop l.i l.t) (drop l.i l.w))
-
-abbrev pub decreases-loop-i : goal.decreases-loop-i
-decreases-loop-i l = length l.w - l.i

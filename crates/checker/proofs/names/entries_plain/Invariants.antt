@@ -12,6 +12,3 @@ use Rattle.checker.proofs.names.entries_plain.Given as goal
 abbrev pub invariant-loop-k : goal.invariant-loop-k
 invariant-loop-k l =
     (l.k ≤ l.atlas) × (l.ok ≡ all_below (λ j. not (eqb (entry_kind l.pairs j) 3 && begins_loc (entry_text l.pairs l.texts j))) l.k)
-
-abbrev pub decreases-loop-k : goal.decreases-loop-k
-decreases-loop-k l = l.atlas - l.k

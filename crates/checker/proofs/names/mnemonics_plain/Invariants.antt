@@ -12,6 +12,3 @@ use Rattle.checker.proofs.names.mnemonics_plain.Given as goal
 abbrev pub invariant-loop-i : goal.invariant-loop-i
 invariant-loop-i l =
     (l.i ≤ l.n) × (l.ok ≡ all_below (λ j. not (eqb (mnemonic_of (body_at l.bodies j)) 0 && begins_loc (name_of (body_at l.bodies j)))) l.i)
-
-abbrev pub decreases-loop-i : goal.decreases-loop-i
-decreases-loop-i l = l.n - l.i

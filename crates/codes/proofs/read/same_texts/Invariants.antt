@@ -9,6 +9,3 @@ use Rattle.codes.proofs.read.same_texts.Given as goal
 abbrev pub invariant-loop-j : goal.invariant-loop-j
 invariant-loop-j l =
     same_word (drop l.j (spelled (decode l.tables l.rec l.a))) (drop l.j (spelled (decode l.tables l.rec l.b))) ≡ same_word (spelled (decode l.tables l.rec l.a)) (spelled (decode l.tables l.rec l.b))
-
-abbrev pub decreases-loop-j : goal.decreases-loop-j
-decreases-loop-j l = l.n - l.j

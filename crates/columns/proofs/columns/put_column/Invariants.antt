@@ -10,6 +10,3 @@ use Rattle.columns.proofs.columns.put_column.Given as goal
 abbrev pub invariant-loop-i : goal.invariant-loop-i
 invariant-loop-i l =
     (l.i ≤ l.m) × (l.from ≡ l.first + l.i * l.n) × (length l.out ≡ length l.initial.out) × (l.out ≡ put l.to (tab (λ k. get_or l.s (l.first + k * l.n) 0) 0 l.i) l.initial.out)
-
-abbrev pub decreases-loop-i : goal.decreases-loop-i
-decreases-loop-i l = l.m - l.i

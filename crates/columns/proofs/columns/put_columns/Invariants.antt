@@ -11,6 +11,3 @@ use Rattle.columns.proofs.columns.put_columns.Given as goal
 abbrev pub invariant-loop-j : goal.invariant-loop-j
 invariant-loop-j l =
     (l.j ≤ l.n) × (l.to ≡ l.at + l.j * l.m) × (length l.out ≡ length l.initial.out) × (l.out ≡ put l.at (tab (cell l.m l.n (drop l.at l.s)) 0 (l.j * l.m)) l.initial.out)
-
-abbrev pub decreases-loop-j : goal.decreases-loop-j
-decreases-loop-j l = l.n - l.j

@@ -8,6 +8,3 @@ use Rattle.commands.proofs.printed.put_pairs.Given as goal
 
 abbrev pub invariant-loop-i : goal.invariant-loop-i
 invariant-loop-i l = Going (pairs_from l.s) 0 l.at l.initial.out l.i l.p l.out
-
-abbrev pub decreases-loop-i : goal.decreases-loop-i
-decreases-loop-i l = length l.s - l.i

@@ -8,6 +8,3 @@ use Rattle.commands.proofs.printed.put_table.Given as goal
 
 abbrev pub invariant-loop-j : goal.invariant-loop-j
 invariant-loop-j l = Going (lines_from (table_lists l.bytes l.rows l.addresses) l.n) 0 0 l.initial.out l.j l.p l.out
-
-abbrev pub decreases-loop-j : goal.decreases-loop-j
-decreases-loop-j l = l.n - l.j

@@ -7,6 +7,3 @@ use Rattle.csv_rows.proofs.fields.put_doubled.Given as goal
 
 abbrev pub invariant-loop-i : goal.invariant-loop-i
 invariant-loop-i l = Going (text_from l.s) 0 l.at l.initial.out l.i l.p l.out
-
-abbrev pub decreases-loop-i : goal.decreases-loop-i
-decreases-loop-i l = length l.s - l.i

@@ -11,7 +11,3 @@ invariant-loop-i l =
     Scan l.s l.i l.t l.x l.n l.l
     × Storing l.s l.i l.t l.x l.n l.l (lists_of l.initial.text l.initial.ends l.initial.kinds l.initial.addresses l.initial.marks l.initial.places l.initial.lines) (lists_of l.text l.ends l.kinds l.addresses l.marks l.places l.lines)
     × (length l.s < 18446744073709551616)
-
-abbrev pub decreases-loop-i : goal.decreases-loop-i
-decreases-loop-i l =
-    length l.s - l.i

@@ -7,6 +7,3 @@ use Rattle.csv_rows.proofs.reading.measure.Given as goal
 
 abbrev pub invariant-loop-i : goal.invariant-loop-i
 invariant-loop-i l = Scan l.s l.i l.t l.x l.n l.l
-
-abbrev pub decreases-loop-i : goal.decreases-loop-i
-decreases-loop-i l = length l.s - l.i

@@ -6,6 +6,3 @@ use Rattle.csv_rows.proofs.sizing.frames_size.Given as goal
 
 abbrev pub invariant-loop-i : goal.invariant-loop-i
 invariant-loop-i l = Frames l.marks l.places l.m l.n l.i
-
-abbrev pub decreases-loop-i : goal.decreases-loop-i
-decreases-loop-i l = l.m - l.i

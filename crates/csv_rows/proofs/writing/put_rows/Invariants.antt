@@ -10,6 +10,3 @@ use Rattle.csv_rows.proofs.writing.put_rows.Given as goal
 
 abbrev pub invariant-loop-i : goal.invariant-loop-i
 invariant-loop-i l = Going (rows_from (lists_of l.text l.ends l.kinds l.addresses l.marks l.places l.lines) l.m) 0 0 l.initial.out l.i l.p l.out × (l.n ≡ end_at l.lines l.i)
-
-abbrev pub decreases-loop-i : goal.decreases-loop-i
-decreases-loop-i l = l.m - l.i

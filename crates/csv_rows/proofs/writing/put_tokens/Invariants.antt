@@ -9,6 +9,3 @@ use Rattle.csv_rows.proofs.writing.put_tokens.Given as goal
 
 abbrev pub invariant-loop-j : goal.invariant-loop-j
 invariant-loop-j l = Going (tokens_from l.text l.ends l.kinds l.m) l.n l.at l.initial.out l.j l.p l.out × (l.x ≡ end_at l.ends l.j)
-
-abbrev pub decreases-loop-j : goal.decreases-loop-j
-decreases-loop-j l = l.m - l.j

@@ -14,6 +14,3 @@ use Rattle.expressions.proofs.arguments.register_arguments.Given as goal
 abbrev pub invariant-loop-k : goal.invariant-loop-k
 invariant-loop-k l =
     (length l.codes ≡ length l.initial.codes) × (l.k ≤ l.n) × ((s : List ℕ) → Sofar l.tables s l.initial.codes l.codes (registers_left l.convention l.n 0) (registers_left l.convention l.n l.k))
-
-abbrev pub decreases-loop-k : goal.decreases-loop-k
-decreases-loop-k l = l.n - l.k

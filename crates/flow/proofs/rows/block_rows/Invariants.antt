@@ -12,6 +12,3 @@ abbrev pub invariant-loop-k : goal.invariant-loop-k
 invariant-loop-k l =
     (l.k ≤ l.h.blocks) × (l.marks ≡ marks_of l.h l.rec) × (l.first ≡ first_instruction l.marks l.k) × (l.edge ≡ first_edge l.marks l.k)
     × Left (block_row l.h l.rec) l.h.blocks l.initial.out (8 * l.k) l.out l.k
-
-abbrev pub decreases-loop-k : goal.decreases-loop-k
-decreases-loop-k l = l.h.blocks - l.k

@@ -9,6 +9,3 @@ use Rattle.flow.proofs.rows.edge_rows.Given as goal
 
 abbrev pub invariant-loop-e : goal.invariant-loop-e
 invariant-loop-e l = (l.e ≤ l.h.edges) × (l.targets ≡ targets_of l.h l.rec) × (l.kinds ≡ edge_kinds_of l.h l.rec) × Left (edge_row l.h l.rec) l.h.edges l.initial.out (2 * l.e) l.out l.e
-
-abbrev pub decreases-loop-e : goal.decreases-loop-e
-decreases-loop-e l = l.h.edges - l.e

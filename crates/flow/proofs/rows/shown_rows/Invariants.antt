@@ -9,6 +9,3 @@ use Rattle.flow.proofs.rows.shown_rows.Given as goal
 
 abbrev pub invariant-loop-i : goal.invariant-loop-i
 invariant-loop-i l = (l.i ≤ l.h.instructions) × (l.bodies ≡ bodies_of l.h l.rec) × Left (shown_row l.h l.rec) l.h.instructions l.initial.out l.i l.out l.i
-
-abbrev pub decreases-loop-i : goal.decreases-loop-i
-decreases-loop-i l = l.h.instructions - l.i

@@ -13,6 +13,3 @@ use Rattle.line.proofs.asm.code_operands.Given as goal
 abbrev pub invariant-loop-i : goal.invariant-loop-i
 invariant-loop-i l =
     (length l.codes ≡ length l.initial.codes) × (l.i ≤ l.n) × Sofar l.tables l.rec l.initial.codes l.codes (operands_left l.h l.rec l.body l.n 0) (operands_left l.h l.rec l.body l.n l.i)
-
-abbrev pub decreases-loop-i : goal.decreases-loop-i
-decreases-loop-i l = l.n - l.i

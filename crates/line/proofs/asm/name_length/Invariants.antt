@@ -11,6 +11,3 @@ use Rattle.line.proofs.asm.name_length.Given as goal
 abbrev pub invariant-loop-k : goal.invariant-loop-k
 invariant-loop-k l =
     (l.k ≤ 24) × (length_from l.name l.k (24 - l.k) ≡ name_length l.name)
-
-abbrev pub decreases-loop-k : goal.decreases-loop-k
-decreases-loop-k l = 24 - l.k

@@ -15,6 +15,3 @@ abbrev pub invariant-loop-i : goal.invariant-loop-i
 invariant-loop-i l =
     (length l.codes ≡ length l.initial.codes) × (l.i ≤ length l.plan)
     × LinesSofar l.tables l.rec l.initial.codes l.codes (printed l.h l.rec l.range l.written (map line_in l.plan)) (printed l.h l.rec l.range l.mask (map line_in (drop l.i l.plan)))
-
-abbrev pub decreases-loop-i : goal.decreases-loop-i
-decreases-loop-i l = length l.plan - l.i

@@ -11,6 +11,3 @@ use Rattle.line.proofs.forms.returns_value.Given as goal
 
 abbrev pub invariant-loop-k : goal.invariant-loop-k
 invariant-loop-k l = (l.k ≤ 6) × (any_below (value_before l.bodies l.first l.i) l.k ≡ false)
-
-abbrev pub decreases-loop-k : goal.decreases-loop-k
-decreases-loop-k l = 6 - l.k

@@ -20,6 +20,3 @@ abbrev pub invariant-loop-i : goal.invariant-loop-i
 invariant-loop-i l =
     (length l.codes ≡ length l.initial.codes) × (l.i ≤ length l.pieces)
     × Sofar l.tables l.rec l.initial.codes l.codes (pieces_tokens l.h l.rec l.site (map piece_of (drop 0 l.pieces))) (pieces_tokens l.h l.rec l.site (map piece_of (drop l.i l.pieces)))
-
-abbrev pub decreases-loop-i : goal.decreases-loop-i
-decreases-loop-i l = length l.pieces - l.i

@@ -9,6 +9,3 @@ use Rattle.lists.proofs.stores.put_little.Given as goal
 
 abbrev pub invariant-loop-i : goal.invariant-loop-i
 invariant-loop-i l = (l.i ≤ l.n) × (length l.out ≡ length l.initial.out) × (put (l.at + l.i) (little (l.n - l.i) l.rest) l.out ≡ put l.at (little l.n l.x) l.initial.out)
-
-abbrev pub decreases-loop-i : goal.decreases-loop-i
-decreases-loop-i l = l.n - l.i

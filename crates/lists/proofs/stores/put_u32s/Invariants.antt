@@ -8,6 +8,3 @@ use Rattle.lists.proofs.stores.put_u32s.Given as goal
 
 abbrev pub invariant-loop-i : goal.invariant-loop-i
 invariant-loop-i l = (l.i ≤ l.n) × (length l.out ≡ length l.initial.out) × (put l.i (drop l.i l.s) l.out ≡ put 0 l.s l.initial.out)
-
-abbrev pub decreases-loop-i : goal.decreases-loop-i
-decreases-loop-i l = l.n - l.i

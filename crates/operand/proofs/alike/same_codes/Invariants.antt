@@ -8,6 +8,3 @@ use Rattle.operand.proofs.alike.same_codes.Given as goal
 
 abbrev pub invariant-loop-i : goal.invariant-loop-i
 invariant-loop-i l = same_word (drop l.i l.a) (drop l.i l.b) ≡ same_word l.a l.b
-
-abbrev pub decreases-loop-i : goal.decreases-loop-i
-decreases-loop-i l = length l.a - l.i

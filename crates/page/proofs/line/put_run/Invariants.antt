@@ -8,6 +8,3 @@ use Rattle.page.proofs.line.put_run.Given as goal
 
 abbrev pub invariant-loop-i : goal.invariant-loop-i
 invariant-loop-i l = (length l.out ≡ length l.initial.out) × (l.i ≤ l.n) × (put (l.at + l.i) (replicate (l.n - l.i) l.b) l.out ≡ put l.at (replicate l.n l.b) l.initial.out)
-
-abbrev pub decreases-loop-i : goal.decreases-loop-i
-decreases-loop-i l = l.n - l.i

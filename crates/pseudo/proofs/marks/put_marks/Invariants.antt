@@ -17,6 +17,3 @@ invariant-loop-i l =
     × (put l.i (map (line_address l.h l.rec) (map line_in (drop l.i l.codes))) l.addresses ≡ put 0 (map (line_address l.h l.rec) (map line_in l.codes)) l.initial.addresses)
     × (put l.i (map line_mark (map line_in (drop l.i l.codes))) l.marks ≡ put 0 (map line_mark (map line_in l.codes)) l.initial.marks)
     × (put l.i (map line_place (map line_in (drop l.i l.codes))) l.places ≡ put 0 (map line_place (map line_in l.codes)) l.initial.places)
-
-abbrev pub decreases-loop-i : goal.decreases-loop-i
-decreases-loop-i l = length l.codes - l.i

@@ -15,6 +15,3 @@ abbrev pub invariant-loop-i : goal.invariant-loop-i
 invariant-loop-i l =
     (length l.codes ≡ 16384) × (l.i ≤ length l.plan) × (length l.text ≡ length l.initial.text) × (length l.ends ≡ length l.initial.ends) × (length l.kinds ≡ length l.initial.kinds) × (length l.lines ≡ length l.initial.lines)
     × Left l.initial.text l.initial.ends l.initial.kinds l.initial.lines (printed l.h l.rec l.range 0 (map line_in l.plan)) l.text l.ends l.kinds l.lines l.p (printed l.h l.rec l.range l.mask (map line_in (drop l.i l.plan)))
-
-abbrev pub decreases-loop-i : goal.decreases-loop-i
-decreases-loop-i l = length l.plan - l.i

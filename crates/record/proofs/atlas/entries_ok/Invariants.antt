@@ -11,6 +11,3 @@ abbrev pub invariant-loop-k : goal.invariant-loop-k
 invariant-loop-k l =
     (l.k ≤ l.atlas) × (l.before ≡ entry_address l.entries (l.k - 1))
     × (l.ok ≡ all_below (λ j. rises l.entries j && entry_kind_ok (entry_kind l.pairs j)) l.k)
-
-abbrev pub decreases-loop-k : goal.decreases-loop-k
-decreases-loop-k l = l.atlas - l.k

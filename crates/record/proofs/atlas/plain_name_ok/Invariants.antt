@@ -10,6 +10,3 @@ use Rattle.record.proofs.atlas.plain_name_ok.Given as goal
 
 abbrev pub invariant-loop-j : goal.invariant-loop-j
 invariant-loop-j l = (l.j ≤ l.n) × (l.ok ≡ all_below (λ m. leb 0x20 (u8_at l.text m) && leb (u8_at l.text m) 0x7e) l.j)
-
-abbrev pub decreases-loop-j : goal.decreases-loop-j
-decreases-loop-j l = l.n - l.j

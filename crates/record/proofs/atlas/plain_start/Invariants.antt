@@ -7,6 +7,3 @@ use Rattle.record.proofs.atlas.plain_start.Given as goal
 
 abbrev pub invariant-loop-i : goal.invariant-loop-i
 invariant-loop-i l = (l.i ≤ l.k) × (l.sum ≤ 255 * l.i) × (l.sum ≡ text_start l.pairs l.i)
-
-abbrev pub decreases-loop-i : goal.decreases-loop-i
-decreases-loop-i l = l.k - l.i

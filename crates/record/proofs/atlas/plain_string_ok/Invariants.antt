@@ -9,6 +9,3 @@ use Rattle.record.proofs.atlas.plain_string_ok.Given as goal
 
 abbrev pub invariant-loop-j : goal.invariant-loop-j
 invariant-loop-j l = (l.j ≤ l.n) × (l.ok ≡ all_below (λ m. ltb (u8_at l.text m) 0x80) l.j)
-
-abbrev pub decreases-loop-j : goal.decreases-loop-j
-decreases-loop-j l = l.n - l.j

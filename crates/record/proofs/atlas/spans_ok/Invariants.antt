@@ -9,6 +9,3 @@ use Rattle.record.proofs.atlas.spans_ok.Given as goal
 
 abbrev pub invariant-loop-k : goal.invariant-loop-k
 invariant-loop-k l = (l.k ≤ l.count) × (l.ok ≡ all_below (λ j. leb (span_first l.spans j) (span_last l.spans j)) l.k)
-
-abbrev pub decreases-loop-k : goal.decreases-loop-k
-decreases-loop-k l = l.count - l.k

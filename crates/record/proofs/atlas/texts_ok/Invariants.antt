@@ -11,6 +11,3 @@ abbrev pub invariant-loop-k : goal.invariant-loop-k
 invariant-loop-k l =
     (l.k ≤ l.atlas) × (l.at ≤ 255 * l.k) × (l.at ≡ text_start l.pairs l.k)
     × (l.ok ≡ all_below (λ j. text_ok (entry_kind l.pairs j) (entry_length l.pairs j) (drop (text_start l.pairs j) l.texts)) l.k)
-
-abbrev pub decreases-loop-k : goal.decreases-loop-k
-decreases-loop-k l = l.atlas - l.k

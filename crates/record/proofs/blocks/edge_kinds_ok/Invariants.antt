@@ -9,6 +9,3 @@ use Rattle.record.proofs.blocks.edge_kinds_ok.Given as goal
 
 abbrev pub invariant-loop-e : goal.invariant-loop-e
 invariant-loop-e l = (l.e ≤ l.edges) × (l.ok ≡ all_below (λ j. leb (edge_kind_at l.kinds j) 4) l.e)
-
-abbrev pub decreases-loop-e : goal.decreases-loop-e
-decreases-loop-e l = l.edges - l.e

@@ -11,6 +11,3 @@ abbrev pub invariant-loop-k : goal.invariant-loop-k
 invariant-loop-k l =
     (l.k ≤ l.blocks) × (l.total ≤ 65535 * l.k) × (l.sum ≤ 255 * l.k)
     × (l.total ≡ sum_below (instructions_in l.marks) l.k) × (l.sum ≡ sum_below (edges_in l.marks) l.k) × (l.ok ≡ all_below (λ j. leb (label_mark l.marks j) 1) l.k)
-
-abbrev pub decreases-loop-k : goal.decreases-loop-k
-decreases-loop-k l = l.blocks - l.k

@@ -9,6 +9,3 @@ use Rattle.record.proofs.blocks.starts_differ.Given as goal
 
 abbrev pub invariant-loop-k : goal.invariant-loop-k
 invariant-loop-k l = (l.k ≤ l.blocks) × (all_below (start_is_new l.starts) l.k ≡ true)
-
-abbrev pub decreases-loop-k : goal.decreases-loop-k
-decreases-loop-k l = l.blocks - l.k

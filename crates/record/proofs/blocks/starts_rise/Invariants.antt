@@ -8,6 +8,3 @@ use Rattle.record.proofs.blocks.starts_rise.Given as goal
 
 abbrev pub invariant-loop-k : goal.invariant-loop-k
 invariant-loop-k l = (l.k ≤ l.blocks) × (l.before.0 ≡ start_at l.starts (l.k - 1)) × (l.ok ≡ all_below (start_rises l.starts) l.k)
-
-abbrev pub decreases-loop-k : goal.decreases-loop-k
-decreases-loop-k l = l.blocks - l.k

@@ -8,6 +8,3 @@ use Rattle.record.proofs.body.bodies_ok.Given as goal
 
 abbrev pub invariant-loop-i : goal.invariant-loop-i
 invariant-loop-i l = (l.i ≤ l.instructions) × (l.ok ≡ all_below (λ j. body_ok (body_at l.bodies j)) l.i)
-
-abbrev pub decreases-loop-i : goal.decreases-loop-i
-decreases-loop-i l = l.instructions - l.i

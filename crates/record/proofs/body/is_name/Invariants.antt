@@ -9,6 +9,3 @@ use Rattle.record.proofs.body.is_name.Given as goal
 
 abbrev pub invariant-loop-k : goal.invariant-loop-k
 invariant-loop-k l = (l.k ≤ 23) × (l.before ≡ u8_at l.name l.k) × (l.ok ≡ all_below (name_goes_on l.name) l.k)
-
-abbrev pub decreases-loop-k : goal.decreases-loop-k
-decreases-loop-k l = 23 - l.k

@@ -8,6 +8,3 @@ use Rattle.record.proofs.body.operands_ok.Given as goal
 
 abbrev pub invariant-loop-i : goal.invariant-loop-i
 invariant-loop-i l = (l.i ≤ 5) × (l.ok ≡ all_below (operand_ok l.body) l.i)
-
-abbrev pub decreases-loop-i : goal.decreases-loop-i
-decreases-loop-i l = 5 - l.i

@@ -9,6 +9,3 @@ use Rattle.record.proofs.body.plain_bodies_ok.Given as goal
 
 abbrev pub invariant-loop-i : goal.invariant-loop-i
 invariant-loop-i l = (l.i ≤ l.instructions) × (all_below (λ j. body_ok (body_at l.bodies j)) l.i ≡ true)
-
-abbrev pub decreases-loop-i : goal.decreases-loop-i
-decreases-loop-i l = l.instructions - l.i

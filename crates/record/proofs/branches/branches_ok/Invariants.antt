@@ -11,6 +11,3 @@ abbrev pub invariant-loop-k : goal.invariant-loop-k
 invariant-loop-k l =
     (l.k ≤ l.blocks) × (l.e ≤ 255 * l.k) × (l.i ≤ 65535 * l.k)
     × (l.e ≡ first_edge l.marks l.k) × (l.i ≡ first_instruction l.marks l.k) × (l.ok ≡ all_below (branch_ok l.targets l.kinds l.marks l.bodies) l.k)
-
-abbrev pub decreases-loop-k : goal.decreases-loop-k
-decreases-loop-k l = l.blocks - l.k

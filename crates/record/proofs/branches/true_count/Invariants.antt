@@ -8,6 +8,3 @@ use Rattle.record.proofs.branches.true_count.Given as goal
 
 abbrev pub invariant-loop-m : goal.invariant-loop-m
 invariant-loop-m l = (l.m ≤ l.n) × (l.count ≤ l.m) × (l.count ≡ sum_below (λ j. pick (is_true l.kinds (l.e + j)) 1 0) l.m)
-
-abbrev pub decreases-loop-m : goal.decreases-loop-m
-decreases-loop-m l = l.n - l.m

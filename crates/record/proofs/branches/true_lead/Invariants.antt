@@ -12,6 +12,3 @@ use Rattle.record.proofs.branches.true_lead.Given as goal
 abbrev pub invariant-loop-m : goal.invariant-loop-m
 invariant-loop-m l =
     (l.m ≤ l.n) × (l.ok ≡ all_below (λ j. not (is_true l.kinds (l.e + j)) || eqb (target_at l.targets (l.e + j)) l.va) l.m)
-
-abbrev pub decreases-loop-m : goal.decreases-loop-m
-decreases-loop-m l = l.n - l.m

@@ -7,6 +7,3 @@ use Rattle.record.proofs.search.plain_first.Given as goal
 
 abbrev pub invariant-loop-k : goal.invariant-loop-k
 invariant-loop-k l = (l.k ≤ l.count) × (find_from l.numbers l.x l.k (l.count - l.k) ≡ find_from l.numbers l.x 0 l.count)
-
-abbrev pub decreases-loop-k : goal.decreases-loop-k
-decreases-loop-k l = l.count - l.k

@@ -9,6 +9,3 @@ use Rattle.routines.proofs.routine.edges_of.Given as goal
 
 abbrev pub invariant-loop-j : goal.invariant-loop-j
 invariant-loop-j l = (l.j ≤ l.n) × (l.edges ≤ 2 * l.j) × (l.edges + edge_count l.j (drop l.j (routine_at l.k)) ≡ edge_count 0 (routine_at l.k))
-
-abbrev pub decreases-loop-j : goal.decreases-loop-j
-decreases-loop-j l = l.n - l.j

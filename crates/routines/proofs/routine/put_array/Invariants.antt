@@ -18,6 +18,3 @@ abbrev pub invariant-loop-j : goal.invariant-loop-j
 invariant-loop-j l =
     (l.j ≤ l.n) × (length l.out ≡ length l.initial.out) × (l.next ≤ l.at + 92 * l.j) × (l.next + length (left l.a (routine_at l.k) l.j) ≡ l.at + length (left l.a (routine_at l.k) 0))
     × (put l.next (left l.a (routine_at l.k) l.j) l.out ≡ put l.at (left l.a (routine_at l.k) 0) l.initial.out)
-
-abbrev pub decreases-loop-j : goal.decreases-loop-j
-decreases-loop-j l = l.n - l.j

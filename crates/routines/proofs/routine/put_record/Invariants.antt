@@ -10,6 +10,3 @@ use Rattle.routines.proofs.routine.put_record.Given as goal
 
 abbrev pub invariant-loop-a : goal.invariant-loop-a
 invariant-loop-a l = (l.a ≤ 6) × (l.next ≡ 24 + length (arrays (routine_at l.k) l.a)) × (l.out ≡ put 24 (arrays (routine_at l.k) l.a) l.initial.out)
-
-abbrev pub decreases-loop-a : goal.decreases-loop-a
-decreases-loop-a l = 6 - l.a

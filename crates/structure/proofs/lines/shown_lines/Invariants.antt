@@ -8,6 +8,3 @@ use Rattle.structure.proofs.lines.shown_lines.Given as goal
 
 abbrev pub invariant-loop-i : goal.invariant-loop-i
 invariant-loop-i l = (l.i ≤ l.end) × Left l.initial.out l.at (codes (shown_lines l.shown l.k.0 l.first l.n l.indent)) l.out l.next (codes (shown_lines l.shown l.k.0 l.i (l.end - l.i) l.indent))
-
-abbrev pub decreases-loop-i : goal.decreases-loop-i
-decreases-loop-i l = l.end - l.i

@@ -9,6 +9,3 @@ use Rattle.structure.proofs.loops.flat_lines.Given as goal
 abbrev pub invariant-loop-k : goal.invariant-loop-k
 invariant-loop-k l =
     Left l.initial.out l.at (codes (flat_lines l.blocks l.shown l.i.0 l.last l.i.0 (l.last - l.i.0) l.indent)) l.out l.next (codes (flat_lines l.blocks l.shown l.i.0 l.last l.k (l.last - l.k) l.indent))
-
-abbrev pub decreases-loop-k : goal.decreases-loop-k
-decreases-loop-k l = l.last - l.k

@@ -11,6 +11,3 @@ use Rattle.text.proofs.bytes.inside_byte.Given as goal
 abbrev pub invariant-loop-i : goal.invariant-loop-i
 invariant-loop-i l =
     (l.i ≤ l.n) × (get_or (escapes (drop l.i (take 80 l.s)) ++ closing (ltb 80 (length l.s))) l.k 0 ≡ get_or (escapes (take 80 l.s) ++ closing (ltb 80 (length l.s))) l.j 0)
-
-abbrev pub decreases-loop-i : goal.decreases-loop-i
-decreases-loop-i l = l.n - l.i

@@ -8,6 +8,3 @@ use Rattle.text.proofs.lengths.escapes_length.Given as goal
 
 abbrev pub invariant-loop-i : goal.invariant-loop-i
 invariant-loop-i l = (l.i ≤ l.n) × (l.sum ≤ 6 * l.i) × (l.sum + length (escapes (drop l.i (take 80 l.s))) ≡ length (escapes (take 80 l.s)))
-
-abbrev pub decreases-loop-i : goal.decreases-loop-i
-decreases-loop-i l = l.n - l.i

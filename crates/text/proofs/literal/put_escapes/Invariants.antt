@@ -14,6 +14,3 @@ invariant-loop-i l =
     × (length l.out ≡ length l.initial.out)
     × (l.at + length (escapes (drop l.i (take 80 l.s))) ≡ length (escapes (take 80 l.s)))
     × (put l.at (escapes (drop l.i (take 80 l.s))) l.out ≡ put 0 (escapes (take 80 l.s)) l.initial.out)
-
-abbrev pub decreases-loop-i : goal.decreases-loop-i
-decreases-loop-i l = l.n - l.i
