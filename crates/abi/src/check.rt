@@ -5,7 +5,7 @@ ghost use Rattle.checker.specs.Called.{number_of, broken_of};
 ghost use Rattle.abi.specs.Checks.{RecordChecked};
 
 use checker::check::{Checked, check_record};
-use lists::stores::store_u64;
+use lists::stores::store;
 
 // The assumption that is broken, 0 if none is and with a number; answers the number.
 fn put_broken(broken: &mut [u64], answer: Checked) -> u8
@@ -14,15 +14,15 @@ fn put_broken(broken: &mut [u64], answer: Checked) -> u8
 {
     match answer {
         Checked::Follows => {
-            store_u64(broken, 0, 0);
+            store(broken, 0, 0);
             0
         }
         Checked::Broken(n) => {
-            store_u64(broken, 0, n as u64);
+            store(broken, 0, n as u64);
             0
         }
         Checked::No(n) => {
-            store_u64(broken, 0, 0);
+            store(broken, 0, 0);
             n
         }
     }

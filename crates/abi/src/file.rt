@@ -8,8 +8,8 @@ ghost use Rattle.abi.specs.Rows.{sizes_in, RowsWritten, RowsRead};
 use crate::sizes::put_answer;
 use csv_rows::reading::read_rows;
 use csv_rows::writing::{Written, write_rows};
-use lists::reads::u64_in;
-use lists::stores::store_u64;
+use lists::reads::element_or;
+use lists::stores::store;
 use rows::answer::Sizes;
 
 // The sizes that a list of text bytes, tokens and lines has.
@@ -17,9 +17,9 @@ pub fn sizes_in(sizes: &[u64]) -> Sizes
     ensures { result ≡ sizes_in sizes.now }
 {
     Sizes {
-        text: u64_in(sizes, 0) as usize,
-        tokens: u64_in(sizes, 1) as usize,
-        lines: u64_in(sizes, 2) as usize,
+        text: element_or(sizes, 0, 0) as usize,
+        tokens: element_or(sizes, 1, 0) as usize,
+        lines: element_or(sizes, 2, 0) as usize,
     }
 }
 
@@ -30,11 +30,11 @@ fn put_written(size: &mut [u64], answer: Written) -> u8
 {
     match answer {
         Written::File(n) => {
-            store_u64(size, 0, n as u64);
+            store(size, 0, n as u64);
             0
         }
         Written::No(n) => {
-            store_u64(size, 0, 0);
+            store(size, 0, 0);
             n
         }
     }

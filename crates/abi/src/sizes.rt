@@ -4,7 +4,7 @@ ghost use Rattle.lists.specs.Put.{put};
 ghost use Rattle.rows.specs.Lists.{number_of};
 ghost use Rattle.abi.specs.Exported.{size_list, answer_list};
 
-use lists::stores::store_u64;
+use lists::stores::store;
 use pseudo::answered::Answered;
 use rows::answer::Answer;
 
@@ -12,9 +12,9 @@ use rows::answer::Answer;
 pub fn put_three(list: &mut [u64], a: u64, b: u64, c: u64)
     ensures { list.new ≡ put 0 (a ∷ b ∷ c ∷ []) list.old }
 {
-    store_u64(list, 0, a);
-    store_u64(list, 1, b);
-    store_u64(list, 2, c);
+    store(list, 0, a);
+    store(list, 1, b);
+    store(list, 2, c);
 }
 
 // The sizes of an answer, zeros with a number; answers the number.
@@ -41,6 +41,6 @@ pub fn put_answered(sizes: &mut [u64], r: Answered) -> u8
 {
     let answer = r.answer;
     let number = put_answer(sizes, answer);
-    store_u64(sizes, 3, r.looks);
+    store(sizes, 3, r.looks);
     number
 }

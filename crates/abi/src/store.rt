@@ -8,7 +8,7 @@ ghost use Rattle.abi.specs.Stores.{BytesStored};
 
 use columns::store::{from_columns, to_columns};
 use lists::stored::Stored;
-use lists::stores::store_u64;
+use lists::stores::store;
 
 // How many bytes are stored, zero with a number; answers the number.
 pub fn put_stored(size: &mut [u64], answer: Stored) -> u8
@@ -17,11 +17,11 @@ pub fn put_stored(size: &mut [u64], answer: Stored) -> u8
 {
     match answer {
         Stored::Bytes(n) => {
-            store_u64(size, 0, n as u64);
+            store(size, 0, n as u64);
             0
         }
         Stored::No(n) => {
-            store_u64(size, 0, 0);
+            store(size, 0, 0);
             n
         }
     }

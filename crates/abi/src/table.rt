@@ -8,14 +8,14 @@ ghost use Rattle.abi.specs.Tables.{count_list, TableMade};
 
 use crate::file::sizes_in;
 use commands::table::{Tabled, command_table};
-use lists::stores::store_u64;
+use lists::stores::store;
 
 // Two numbers from the start of the list on.
 fn put_two(list: &mut [u64], a: u64, b: u64)
     ensures { list.new ≡ put 0 (a ∷ b ∷ []) list.old }
 {
-    store_u64(list, 0, a);
-    store_u64(list, 1, b);
+    store(list, 0, a);
+    store(list, 1, b);
 }
 
 // How many bytes and rows the table has, zeros with a number; answers the number.

@@ -9,8 +9,8 @@ use lib.Dec.{ltb, leb}
 use borrow.Author.Tests.{ltb-true, leb-true}
 use Rattle.lists.specs.Choice.{pick}
 use Rattle.lists.specs.Every.{both_yes}
-use Rattle.record.specs.declared.blocks.FoundPlace.{FoundPlace}
-use Rattle.record.specs.declared.blocks.FoundPlace.TheVariants.{AtPlace, NoPlace}
+use Rattle.std.specs.Prelude.{Option, Some, None}
+use Rattle.record.specs.declared.blocks.Place.{Place}
 use Rattle.cfg.specs.Graph.{first_edge_in, edges_in, ends_in_branch, branch_to, has_edge, true_edge_to, enters, jump_to, leaves, outside, closes_loop, single_entry}
 use Rattle.cfg.specs.Shape.{last_loop}
 use Rattle.cfg.specs.Turn.{edges_before}
@@ -87,9 +87,9 @@ module _ (blocks edges starts targets : List ℕ) (B i to : ℕ) (fits : to ≤ 
       omega (arith, entry_few blocks edges B (i + 1) t, or_none s l, escape_few blocks starts targets B (i + 1) t (omega arith) (omega arith)))
       (λ u. omega arith)
 
-  loop_few : (f : FoundPlace) → loop_looks blocks edges starts targets B f i to ≤ 3 * edges_before blocks B
-  loop_few NoPlace = omega (arith, region_few)
-  loop_few (AtPlace j) =
+  loop_few : (f : Option Place) → loop_looks blocks edges starts targets B f i to ≤ 3 * edges_before blocks B
+  loop_few None = omega (arith, region_few)
+  loop_few (Some j) =
       let s = single_entry blocks edges B i (j.0 + 1) in
       let l : ℕ = region_looks blocks edges starts targets B i to in
       pick_both (λ x. x ≤ 3 * edges_before blocks B) (ltb i j.0) (entry_looks blocks edges B i (j.0 + 1) + pick s 0 l) l

@@ -8,8 +8,7 @@ use native.Mathlib.Omega.{arith}
 use lib.Dec.{ltb}
 use Rattle.lists.specs.Choice.{pick}
 use Rattle.record.specs.declared.blocks.Place.{Place}
-use Rattle.record.specs.declared.blocks.FoundPlace.{FoundPlace}
-use Rattle.record.specs.declared.blocks.FoundPlace.TheVariants.{AtPlace, NoPlace}
+use Rattle.std.specs.Prelude.{Option, Some, None}
 use Rattle.cfg.specs.Graph.{single_entry}
 use Rattle.cfg.specs.Turn.{edges_before}
 use Rattle.cfg.specs.Looks.{search_looks, entry_looks, region_looks, loop_looks, shape_looks}
@@ -34,23 +33,23 @@ module _ (blocks edges starts targets : List ℕ) (B i to : ℕ) (before : i < t
   abbrev Told : Shape → ℕ → Type 0
   Told shape looks = (shape ≡ shape_at blocks edges starts targets B i to) × ((looks ≡ shape_looks blocks edges starts targets B i to) × (looks ≤ 4 * edges_before blocks B))
 
-  module _ (f : FoundPlace) (n : ℕ) (e : f ≡ last_loop blocks edges i to) (h : n ≡ search_looks blocks edges i (to - i)) where
-    told : (g : FoundPlace) → f ≡ g → (s : Shape) (l : ℕ) → s ≡ loop_at blocks edges starts targets B g i to → l ≡ n + loop_looks blocks edges starts targets B g i to → Told s l
+  module _ (f : Option Place) (n : ℕ) (e : f ≡ last_loop blocks edges i to) (h : n ≡ search_looks blocks edges i (to - i)) where
+    told : (g : Option Place) → f ≡ g → (s : Shape) (l : ℕ) → s ≡ loop_at blocks edges starts targets B g i to → l ≡ n + loop_looks blocks edges starts targets B g i to → Told s l
     unfolding shape_at shape_looks
     told g w s l p q =
         let v : l ≡ search_looks blocks edges i (to - i) + loop_looks blocks edges starts targets B (last_loop blocks edges i to) i to =
-        q ∙ ap₂ (λ (x : ℕ) (y : FoundPlace). x + loop_looks blocks edges starts targets B y i to) h (sym w ∙ e) in
-        (p ∙ ap (λ (x : FoundPlace). loop_at blocks edges starts targets B x i to) (sym w ∙ e), (v, omega (arith, v, shape_few blocks edges starts targets B i to fits (omega arith))))
+        q ∙ ap₂ (λ (x : ℕ) (y : Option Place). x + loop_looks blocks edges starts targets B y i to) h (sym w ∙ e) in
+        (p ∙ ap (λ (x : Option Place). loop_at blocks edges starts targets B x i to) (sym w ∙ e), (v, omega (arith, v, shape_few blocks edges starts targets B i to fits (omega arith))))
 
-    pub stands_alone : f ≡ NoPlace → (s : Shape) (l : ℕ) → s ≡ region → l ≡ n + read → Told s l
-    stands_alone w s l p q = told NoPlace w s l p q
+    pub stands_alone : f ≡ None → (s : Shape) (l : ℕ) → s ≡ region → l ≡ n + read → Told s l
+    stands_alone w s l p q = told None w s l p q
 
-    module _ (j : Place) (w : f ≡ AtPlace j) {r : Looked} (t : r.found ≡ (ltb i j.0 && single_entry blocks edges B i (j.0 + 1)))
+    module _ (j : Place) (w : f ≡ Some j) {r : Looked} (t : r.found ≡ (ltb i j.0 && single_entry blocks edges B i (j.0 + 1)))
         (u : r.looks ≡ pick (ltb i j.0) (entry_looks blocks edges B i (j.0 + 1)) 0) where
       tested : (b : Bool) → r.found ≡ b → (s : Shape) (l : ℕ) → s ≡ pick b (Loop j) region → l ≡ n + r.looks + pick b 0 read → Told s l
       tested b v s l p q =
           let c = sym v ∙ t in
-          told (AtPlace j) w s l (p ∙ ap (λ (x : Bool). pick x (Loop j) region) c)
+          told (Some j) w s l (p ∙ ap (λ (x : Bool). pick x (Loop j) region) c)
           (q ∙ ap₂ (λ (x : ℕ) (y : Bool). n + x + pick y 0 read) u c ∙ one_or_both (ltb i j.0) (single_entry blocks edges B i (j.0 + 1)) n (entry_looks blocks edges B i (j.0 + 1)) read)
 
       pub stands_loop : r.found ≡ true → Told (Loop j) (n + r.looks)

@@ -12,10 +12,7 @@ use Rattle.lists.specs.Choice.{pick}
 use Rattle.lists.specs.Every.{both_yes}
 use Rattle.record.specs.Search.{last_from}
 use Rattle.record.specs.declared.blocks.Place.{Place}
-use Rattle.record.specs.declared.blocks.FoundPlace.{FoundPlace}
-use Rattle.record.specs.declared.blocks.FoundPlace.TheVariants.{AtPlace, NoPlace}
-use Rattle.record.specs.declared.search.Found.{Found}
-use Rattle.record.specs.declared.search.Found.TheVariants.{At, Nothing}
+use Rattle.std.specs.Prelude.{Option, Some, None}
 use Rattle.cfg.specs.Graph.{count_in, ending_in, ends_in_branch, branch_to, has_condition, closes_loop, has_edge, true_edge_to, single_entry, escapes}
 use Rattle.cfg.specs.Shape.{place, found_place, last_loop, opens_region, region_at, loop_at, shape_at}
 use Rattle.cfg.specs.declared.shape.Shape.{Shape}
@@ -46,35 +43,35 @@ closes_some blocks edges i j e =
     ending_some blocks j (λ z. false≢true (rw z at c))
 
 -- what a search for the last one found
-abbrev pub FoundOk : (ℕ → Bool) → ℕ → ℕ → Found → Type 0
-FoundOk p i n Nothing = Unit {0}
-FoundOk p i n (At j) = (i ≤ j) × (j < i + n) × (p j ≡ true)
+abbrev pub FoundOk : (ℕ → Bool) → ℕ → ℕ → Option ℕ → Type 0
+FoundOk p i n None = Unit {0}
+FoundOk p i n (Some j) = (i ≤ j) × (j < i + n) × (p j ≡ true)
 
-wider : (p : ℕ → Bool) (i n : ℕ) (f : Found) → FoundOk p i n f → FoundOk p i (suc n) f
-wider p i n Nothing h = h
-wider p i n (At j) h = (h.0, omega arith, h.2)
+wider : (p : ℕ → Bool) (i n : ℕ) (f : Option ℕ) → FoundOk p i n f → FoundOk p i (suc n) f
+wider p i n None h = h
+wider p i n (Some j) h = (h.0, omega arith, h.2)
 
 pub last_ok : (p : ℕ → Bool) (i n : ℕ) → FoundOk p i n (last_from p i n)
 unfolding last_from
 last_ok p i zero = tt
-last_ok p i (suc n) = pick_both (FoundOk p i (suc n)) (p (i + n)) (At (i + n)) (last_from p i n) (λ e. (omega arith, omega arith, e)) (λ e. wider p i n (last_from p i n) (last_ok p i n))
+last_ok p i (suc n) = pick_both (FoundOk p i (suc n)) (p (i + n)) (Some (i + n)) (last_from p i n) (λ e. (omega arith, omega arith, e)) (λ e. wider p i n (last_from p i n) (last_ok p i n))
 
 -- the same of a place that was found
-abbrev PlaceOk : (ℕ → Bool) → ℕ → ℕ → FoundPlace → Type 0
-PlaceOk p i n NoPlace = Unit {0}
-PlaceOk p i n (AtPlace j) = (i ≤ j.0) × (j.0 < i + n) × (p j.0 ≡ true)
+abbrev PlaceOk : (ℕ → Bool) → ℕ → ℕ → Option Place → Type 0
+PlaceOk p i n None = Unit {0}
+PlaceOk p i n (Some j) = (i ≤ j.0) × (j.0 < i + n) × (p j.0 ≡ true)
 
-place_ok : (p : ℕ → Bool) (i n : ℕ) (f : Found) → FoundOk p i n f → PlaceOk p i n (found_place f)
-place_ok p i n Nothing h = h
-place_ok p i n (At j) h = h
+place_ok : (p : ℕ → Bool) (i n : ℕ) (f : Option ℕ) → FoundOk p i n f → PlaceOk p i n (found_place f)
+place_ok p i n None h = h
+place_ok p i n (Some j) h = h
 
 loop_ok : (blocks edges : List ℕ) (i to : ℕ) → PlaceOk (closes_loop blocks edges i) i (to - i) (last_loop blocks edges i to)
 unfolding last_loop
 loop_ok blocks edges i to = place_ok (closes_loop blocks edges i) i (to - i) (last_from (closes_loop blocks edges i) i (to - i)) (last_ok (closes_loop blocks edges i) i (to - i))
 
-pub loop_before : (blocks edges : List ℕ) (i to : ℕ) (j : Place) → last_loop blocks edges i to ≡ AtPlace j → j.0 < to
+pub loop_before : (blocks edges : List ℕ) (i to : ℕ) (j : Place) → last_loop blocks edges i to ≡ Some j → j.0 < to
 loop_before blocks edges i to j e =
-    let h : PlaceOk (closes_loop blocks edges i) i (to - i) (AtPlace j) = subst (PlaceOk (closes_loop blocks edges i) i (to - i)) e (loop_ok blocks edges i to) in
+    let h : PlaceOk (closes_loop blocks edges i) i (to - i) (Some j) = subst (PlaceOk (closes_loop blocks edges i) i (to - i)) e (loop_ok blocks edges i to) in
     omega arith
 
 module _ (blocks edges : List ℕ) where
@@ -100,9 +97,9 @@ module _ (blocks edges : List ℕ) where
         (ltb-true (i + 1) t b.1, leb-true t to a.1, eqb-true (ending_in blocks i) 2 b.0, refl))
         (λ e. h)
 
-    loop_within : (i to : ℕ) (f : FoundPlace) → i < to → PlaceOk (closes_loop blocks edges i) i (to - i) f → Within i to (loop_at blocks edges starts targets B f i to)
-    loop_within i to NoPlace h ok = region_within i to h
-    loop_within i to (AtPlace j) h ok =
+    loop_within : (i to : ℕ) (f : Option Place) → i < to → PlaceOk (closes_loop blocks edges i) i (to - i) f → Within i to (loop_at blocks edges starts targets B f i to)
+    loop_within i to None h ok = region_within i to h
+    loop_within i to (Some j) h ok =
         pick_both (Within i to) (ltb i j.0 && single_entry blocks edges B i (j.0 + 1)) (Loop j) (region_at blocks edges starts targets B i to)
         (λ e. (ltb-true i j.0 (both_yes (ltb i j.0) _ e).0, omega arith, ok.2))
         (λ e. region_within i to h)

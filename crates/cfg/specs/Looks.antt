@@ -2,8 +2,8 @@
 -- test, in record order, with each stopping at its first deciding edge."
 use Rattle.std.specs.Prelude.{ℕ, zero, suc, ◌+◌, ◌-◌, List, Bool, true, ◌&&◌, ltb, leb}
 use Rattle.lists.specs.Choice.{pick}
-use Rattle.record.specs.declared.blocks.FoundPlace.{FoundPlace}
-use Rattle.record.specs.declared.blocks.FoundPlace.TheVariants.{AtPlace, NoPlace}
+use Rattle.std.specs.Prelude.{Option, Some, None}
+use Rattle.record.specs.declared.blocks.Place.{Place}
 use Rattle.cfg.specs.Graph.{first_edge_in, edges_in, ends_in_branch, branch_to, has_edge, true_edge_to, enters, jump_to, leaves, outside, closes_loop, single_entry}
 use Rattle.cfg.specs.Shape.{last_loop}
 
@@ -52,9 +52,9 @@ module _ (blocks edges starts targets : List ℕ) (B : ℕ) where
       (entry_looks blocks edges B (i + 1) t + pick (single_entry blocks edges B (i + 1) t) (escape_looks blocks starts targets (i + 1) t) 0) 0
 
   -- behind the loop search, by what it found
-  abbrev pub loop_looks : FoundPlace → ℕ → ℕ → ℕ
-  loop_looks NoPlace i to = region_looks i to
-  loop_looks (AtPlace j) i to =
+  abbrev pub loop_looks : Option Place → ℕ → ℕ → ℕ
+  loop_looks None i to = region_looks i to
+  loop_looks (Some j) i to =
       pick (ltb i j.0) (entry_looks blocks edges B i (j.0 + 1) + pick (single_entry blocks edges B i (j.0 + 1)) 0 (region_looks i to)) (region_looks i to)
 
   -- all that is read to tell what stands at place i of a range up to `to`

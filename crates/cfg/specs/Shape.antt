@@ -3,10 +3,7 @@ use Rattle.std.specs.Prelude.{ℕ, ◌+◌, ◌-◌, List, Bool, not, ◌&&◌, 
 use Rattle.lists.specs.Choice.{pick}
 use Rattle.record.specs.Search.{last_from}
 use Rattle.record.specs.declared.blocks.Place.{Place}
-use Rattle.record.specs.declared.blocks.FoundPlace.{FoundPlace}
-use Rattle.record.specs.declared.blocks.FoundPlace.TheVariants.{AtPlace, NoPlace}
-use Rattle.record.specs.declared.search.Found.{Found}
-use Rattle.record.specs.declared.search.Found.TheVariants.{At, Nothing}
+use Rattle.std.specs.Prelude.{Option, Some, None}
 use Rattle.cfg.specs.Graph.{ends_in_branch, branch_to, closes_loop, single_entry, escapes}
 use Rattle.cfg.specs.declared.shape.Shape.{Shape}
 use Rattle.cfg.specs.declared.shape.Shape.TheVariants.{Loop, Region, Plain}
@@ -15,12 +12,12 @@ abbrev pub place : ℕ → Place
 place k = record { 0 = k }
 
 -- what a search among places found
-abbrev pub found_place : Found → FoundPlace
-found_place (At k) = AtPlace (place k)
-found_place Nothing = NoPlace
+abbrev pub found_place : Option ℕ → Option Place
+found_place (Some k) = Some (place k)
+found_place None = None
 
--- "At place i the last j from i on, before the end, is sought whose block has a True edge to i's start .."
-unfoldable pub last_loop : List ℕ → List ℕ → ℕ → ℕ → FoundPlace
+-- "Some place i the last j from i on, before the end, is sought whose block has a True edge to i's start .."
+unfoldable pub last_loop : List ℕ → List ℕ → ℕ → ℕ → Option Place
 last_loop blocks edges i to = found_place (last_from (closes_loop blocks edges i) i (to - i))
 
 module _ (blocks edges starts targets : List ℕ) (B : ℕ) where
@@ -39,9 +36,9 @@ module _ (blocks edges starts targets : List ℕ) (B : ℕ) where
 
   -- "A do-loop is written if j > i and no block outside i..j has an edge to an inside block other than i." No shorter loop is
   -- tried.
-  abbrev pub loop_at : FoundPlace → ℕ → ℕ → Shape
-  loop_at NoPlace i to = region_at i to
-  loop_at (AtPlace j) i to = pick (ltb i j.0 && single_entry blocks edges B i (j.0 + 1)) (Loop j) (region_at i to)
+  abbrev pub loop_at : Option Place → ℕ → ℕ → Shape
+  loop_at None i to = region_at i to
+  loop_at (Some j) i to = pick (ltb i j.0 && single_entry blocks edges B i (j.0 + 1)) (Loop j) (region_at i to)
 
   unfoldable pub shape_at : ℕ → ℕ → Shape
   shape_at i to = loop_at (last_loop blocks edges i to) i to

@@ -6,7 +6,7 @@ ghost use Rattle.cfg.specs.Graph.{passes};
 ghost use Rattle.cfg.specs.Reads.{Reads};
 
 use lists::reads::plain_u64;
-use record::blocks::{Address, Place, is_before, is_below, same_address, same_place};
+use record::blocks::{Address, Place};
 
 // What is wanted of an edge: a True edge to a place, one to a place behind the first and before the second, or one to a place
 // that is not of kind Fall.
@@ -31,9 +31,9 @@ fn is_wanted(edges: &[u16], wanted: Wanted, e: usize) -> bool
     let t = Place(edges[2 * e]);
     let kind = edges[2 * e + 1];
     match wanted {
-        Wanted::TrueTo(i) => same_place(t, i) & (kind == 1),
-        Wanted::Between(from, to) => is_before(from, t) & is_before(t, to),
-        Wanted::JumpTo(i) => same_place(t, i) & (kind != 3),
+        Wanted::TrueTo(i) => (t == i) & (kind == 1),
+        Wanted::Between(from, to) => (from < t) & (t < to),
+        Wanted::JumpTo(i) => (t == i) & (kind != 3),
     }
 }
 
@@ -66,7 +66,7 @@ pub fn read_targets(targets: &[u8], first: Address, excepted: Address, e: usize,
     let mut k: usize = 0;
     while k < n {
         let target = Address(plain_u64(targets, 8 * (e + k)));
-        if is_below(target, first) & !same_address(target, excepted) {
+        if (target < first) & (target != excepted) {
             return Looked {
                 found: true,
                 looks: k as u64 + 1,

@@ -4,31 +4,31 @@ ghost use Rattle.cfg.specs.Graph.{first_in, count_in, first_edge_in, edges_in, l
 ghost use Rattle.cfg.specs.Turn.{edges_before};
 ghost use Rattle.cfg.specs.Reads.{Turns};
 
-use lists::reads::{u8_at, u16_in};
+use lists::reads::{element_or, u8_at};
 use record::blocks::Place;
 
 pub fn first_in(blocks: &[u16], k: Place) -> u16
     ensures { (result ≡ first_in blocks.now k.0) × (result < 65536) }
 {
-    u16_in(blocks, 8 * k.0 as usize)
+    element_or(blocks, 8 * k.0 as usize, 0)
 }
 
 pub fn count_in(blocks: &[u16], k: Place) -> u16
     ensures { (result ≡ count_in blocks.now k.0) × (result < 65536) }
 {
-    u16_in(blocks, 8 * k.0 as usize + 1)
+    element_or(blocks, 8 * k.0 as usize + 1, 0)
 }
 
 pub fn first_edge_in(blocks: &[u16], k: Place) -> u16
     ensures { (result ≡ first_edge_in blocks.now k.0) × (result < 65536) }
 {
-    u16_in(blocks, 8 * k.0 as usize + 2)
+    element_or(blocks, 8 * k.0 as usize + 2, 0)
 }
 
 pub fn edges_in(blocks: &[u16], k: Place) -> u16
     ensures { (result ≡ edges_in blocks.now k.0) × (result < 65536) }
 {
-    u16_in(blocks, 8 * k.0 as usize + 3)
+    element_or(blocks, 8 * k.0 as usize + 3, 0)
 }
 
 // How many edges the blocks before place k have: they end where those of the last one do.
@@ -46,7 +46,7 @@ pub fn edges_before(blocks: &[u16], k: Place) -> usize
 pub fn label_wanted(blocks: &[u16], k: Place) -> bool
     ensures { result ≡ label_wanted blocks.now k.0 }
 {
-    u16_in(blocks, 8 * k.0 as usize + 4) == 1
+    element_or(blocks, 8 * k.0 as usize + 4, 0) == 1
 }
 
 pub fn ending_in(blocks: &[u16], k: Place) -> u16
@@ -55,13 +55,13 @@ pub fn ending_in(blocks: &[u16], k: Place) -> u16
     if count_in(blocks, k) == 0 {
         return 0;
     }
-    u16_in(blocks, 8 * k.0 as usize + 5)
+    element_or(blocks, 8 * k.0 as usize + 5, 0)
 }
 
 pub fn branch_to(blocks: &[u16], k: Place) -> Place
     ensures { result.0 ≡ branch_to blocks.now k.0 }
 {
-    Place(u16_in(blocks, 8 * k.0 as usize + 6))
+    Place(element_or(blocks, 8 * k.0 as usize + 6, 0))
 }
 
 // A block's last instruction, of a block that has one.

@@ -9,7 +9,7 @@ ghost use Rattle.cfg.specs.Shape.{last_loop, opens_region, region_at, shape_at};
 use crate::edges::Looked;
 use crate::graph::{branch_to, edges_before, ending_in, first_edge_in};
 use crate::tests::{closes_loop, enters_inside, region_escapes};
-use record::blocks::{FoundPlace, Place, is_before};
+use record::blocks::Place;
 
 // A do-loop up to the block at a place, an if-region up to a place, or a plain block.
 #[derive(Clone, Copy)]
@@ -29,7 +29,7 @@ pub struct Seen {
 // What the search for a loop came to.
 #[derive(Clone, Copy)]
 struct Sought {
-    place: FoundPlace,
+    place: Option<Place>,
     looks: u64,
 }
 
@@ -50,16 +50,13 @@ fn last_loop(blocks: &[u16], edges: &[u16], i: Place, to: Place) -> Sought
         looks += read.looks;
         if read.found {
             return Sought {
-                place: FoundPlace::AtPlace(Place(j)),
+                place: Some(Place(j)),
                 looks,
             };
         }
         end = e;
     }
-    Sought {
-        place: FoundPlace::NoPlace,
-        looks,
-    }
+    Sought { place: None, looks }
 }
 
 // A loop from i to j has more than one block, and is entered only at i.
@@ -69,7 +66,7 @@ fn is_loop(blocks: &[u16], edges: &[u16], count: u16, i: Place, j: Place) -> Loo
     ensures found { result.found ≡ (ltb i.0 j.0 && single_entry blocks.now edges.now count i.0 (j.0 + 1)) }
     ensures looks { (result.looks ≡ pick (ltb i.0 j.0) (entry_looks blocks.now edges.now count i.0 (j.0 + 1)) 0) × (result.looks ≤ 131070) }
 {
-    if is_before(i, j) {
+    if i < j {
         let entry = enters_inside(blocks, edges, count, i, Place(j.0 + 1));
         return Looked {
             found: !entry.found,
@@ -188,7 +185,7 @@ pub fn shape_at(
     let looks = sought.looks;
     let found = sought.place;
     match found {
-        FoundPlace::AtPlace(j) => {
+        Some(j) => {
             let test = is_loop(blocks, edges, count, i, j);
             let read = looks + test.looks;
             if test.found {
@@ -199,6 +196,6 @@ pub fn shape_at(
             }
             region_at(blocks, edges, starts, targets, count, i, to, read)
         }
-        FoundPlace::NoPlace => region_at(blocks, edges, starts, targets, count, i, to, looks),
+        None => region_at(blocks, edges, starts, targets, count, i, to, looks),
     }
 }

@@ -13,12 +13,11 @@ ghost use Rattle.checker.specs.Rows.{one_edge_to, turns_inside, last_marked, jum
 use crate::edges::{Kind, count_of, lead_to};
 use crate::instructions::{ends_route, none_turns};
 use cfg::graph::{branch_to, count_in, edges_in, ending_in, first_edge_in, first_in, last_in};
-use lists::reads::from;
+use lists::parts::from;
 use operand::names::entry_at;
 use record::blocks::{Place, start_at};
 use record::body::{op_number, skip_mark};
 use record::header::Header;
-use record::search::Found;
 
 // The last instruction of block k, where it has one.
 fn last_body<'a>(bodies: &'a [u8], blocks: &[u16], k: Place) -> &'a [u8]
@@ -81,8 +80,8 @@ fn start_unnamed(rec: &[u8], h: Header, k: Place) -> bool
 {
     let found = entry_at(rec, h, start_at(from(rec, 24), k).0);
     match found {
-        Found::At(_) => false,
-        Found::Nothing => true,
+        Some(_) => false,
+        None => true,
     }
 }
 

@@ -15,8 +15,7 @@ use crate::names::{entries_plain, mnemonics_plain, no_flow_words};
 use codes::tables::{isa_of, tables};
 use flow::planned::plan_record;
 use flow::rows::block_rows;
-use lists::parts::{part_u16, part_u64};
-use lists::reads::from;
+use lists::parts::{from, part};
 use record::asked::{Asked, record};
 use record::header::{Header, read_header};
 use record::layout::{bodies_at, edge_kinds_at, pairs_at, size, targets_at, texts_at};
@@ -39,7 +38,7 @@ fn gotos_labelled(rec: &[u8], h: Header, blocks: &[u16]) -> bool
     let tables: &[u8] = &made;
     let mut plan = [0u64; 900];
     let planned = plan_record(isa_of(tables), rec, h, blocks, 0, h.blocks, &mut plan);
-    all_labelled(blocks, part_u64(&plan, planned.next))
+    all_labelled(blocks, part(&plan, 0, planned.next))
 }
 
 // 2 to 5, or 0: what instructions and edges tell.
@@ -134,7 +133,7 @@ fn check_accepted(rec: &[u8], h: Header) -> Checked
 {
     let mut block = [0u16; 1600];
     block_rows(rec, h, &mut block);
-    let blocks = part_u16(&block, 8 * size(h.blocks));
+    let blocks = part(&block, 0, 8 * size(h.blocks));
     let broken = first_broken(rec, h, blocks);
     if broken == 0 {
         return Checked::Follows;

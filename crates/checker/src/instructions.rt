@@ -5,7 +5,7 @@ ghost use Rattle.record.specs.Body.{body_at, mnemonic_of, sets_by_condition, ope
 ghost use Rattle.route.specs.Processor.{is_return, is_jump};
 ghost use Rattle.route.specs.Assumed.{turns};
 
-use lists::reads::from;
+use lists::parts::from;
 use record::body::{is_conditional_branch, mnemonic, op_kind};
 
 // A ret or a jmp.

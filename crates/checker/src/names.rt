@@ -5,8 +5,7 @@ ghost use Rattle.record.specs.Atlas.{entry_kind, entry_text};
 ghost use Rattle.record.specs.Body.{body_at, mnemonic_of, name_of};
 ghost use Rattle.checker.specs.Broken.{begins, begins_loc, is_flow_word};
 
-use lists::parts::part;
-use lists::reads::from;
+use lists::parts::{from, part};
 use record::atlas::{entry_kind, entry_length, text_start};
 use record::body::mnemonic;
 

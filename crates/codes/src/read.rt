@@ -7,7 +7,7 @@ ghost use Rattle.codes.specs.Code.{line_end, what_in, has_value, text_in, decode
 ghost use Rattle.codes.specs.Spelled.{spelled};
 
 use lists::parts::part;
-use lists::reads::{u8_at, u64_in};
+use lists::reads::{element_or, u8_at};
 use text::bytes::{literal_byte, num_byte, prefixed_byte};
 use text::lengths::{literal_length, num_length};
 use text::number::hex_count;
@@ -100,7 +100,7 @@ fn byte_at(tables: &[u8], rec: &[u8], codes: &[u64], j: usize) -> u8
     let mut k = j;
     while i < codes.len() {
         let c = codes[i];
-        let v = u64_in(codes, i + 1);
+        let v = element_or(codes, i + 1, 0);
         let n = length_of(tables, rec, c, v);
         if k < n {
             return byte_in(tables, rec, c, v, k);

@@ -3,7 +3,7 @@ ghost use Rattle.std.specs.Prelude.{◌≡◌};
 ghost use Rattle.x86.specs.Table.{isa_bytes};
 ghost use Rattle.codes.specs.Tables.{table_bytes};
 
-use lists::reads::from;
+use lists::parts::from;
 
 // Registers, mnemonics and conditions.
 pub fn isa_of(tables: &[u8]) -> &[u8]

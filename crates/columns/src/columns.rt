@@ -4,9 +4,8 @@ ghost use Rattle.lists.specs.Entries.{tab};
 ghost use Rattle.lists.specs.Put.{put};
 ghost use Rattle.columns.specs.Columns.{transposed};
 
-use lists::parts::part;
-use lists::reads::from;
-use lists::stores::put_bytes;
+use lists::parts::{from, part};
+use lists::stores::put_slice;
 
 // A column of m rows: every n-th byte from `first` on, stored from `to` on.
 fn put_column(out: &mut [u8], s: &[u8], to: usize, first: usize, m: usize, n: usize)
@@ -37,8 +36,8 @@ pub fn put_rearranged(out: &mut [u8], s: &[u8], at: usize, m: usize, n: usize)
     requires { (at + n * m ≤ length s.now) × (length s.now ≤ length out.old) × (length s.now + n < 1_000_000) }
     ensures { out.new ≡ put 0 (take at s.now ++ (transposed m n (drop at s.now) ++ drop (at + n * m) s.now)) out.old }
 {
-    put_bytes(out, part(s, 0, at));
+    put_slice(out, part(s, 0, at));
     put_columns(out, s, at, m, n);
     let end = at + n * m;
-    put_bytes(&mut out[end..], from(s, end));
+    put_slice(&mut out[end..], from(s, end));
 }

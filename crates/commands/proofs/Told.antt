@@ -89,7 +89,7 @@ module _ (l : Lists) (call register : List ℕ) where
       record {
         line = w.line;
         from = omega (arith, w.from);
-        within = omega (arith, w.within);
+        within = omega (arith, w.min);
         calls = w.calls;
         address = w.address;
         bytes = w.bytes;
@@ -168,7 +168,7 @@ module _ (l : Lists) (z : Sizes) (call register : List ℕ) where
         let g = tells w.line (row_bytes t.bytes t.rows j) (get_or t.rows j 0 % 2) (get_or es j nothing).bytes (sym w.bytes) part mark in
         record {
           line = w.line;
-          within = omega (arith, w.within);
+          within = omega (arith, w.min);
           calls = w.calls;
           address = rw c (get_or-append (map f es) cs 0 j (omega (arith, length-map es f)) ∙ get_or-map f es j nothing ∙ w.address);
           bytes = g.0;

@@ -8,7 +8,7 @@ ghost use Rattle.commands.specs.Calls.{token_of, is_call, calls_to, begins_with}
 use csv_rows::held::end_at;
 use csv_rows::writing::text_between;
 use lists::parts::part;
-use lists::reads::{same, u8_at, u16_in};
+use lists::reads::{element_or, same, u8_at};
 
 // Whether two texts are the same, as the definitions ask it.
 pub fn same_text(a: &[u8], b: &[u8]) -> bool
@@ -60,7 +60,7 @@ pub fn is_call(
     requires { i < length lines.now }
     ensures { (a p : List ℕ) → result ≡ is_call (row_at (lists_of text.now ends.now kinds.now a marks.now p lines.now) i) }
 {
-    if u16_in(marks, i) >= 256 {
+    if element_or(marks, i, 0) >= 256 {
         if (kind_of(kinds, lines, i, 0) == 1) & (kind_of(kinds, lines, i, 3) == 6) {
             return same_text(text_of(text, ends, lines, i, 1), b" = ")
                 & (u8_at(text_of(text, ends, lines, i, 3), 0) == b'(');

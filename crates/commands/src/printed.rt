@@ -9,7 +9,7 @@ ghost use Rattle.commands.specs.Printed.{pairs, value_text, row_line, table_text
 
 use csv_rows::numbers::put_sixteen;
 use csv_rows::writing::text_between;
-use lists::reads::u64_in;
+use lists::reads::element_or;
 use lists::stores::store;
 use text::number::digit_of;
 
@@ -43,7 +43,7 @@ fn byte_end(rows: &[u64], j: usize) -> usize
     if j == 0 {
         return 0;
     }
-    (u64_in(rows, j - 1) / 2) as usize
+    (element_or(rows, j - 1, 0) / 2) as usize
 }
 
 // The bytes of row j as pairs, or a dash if it has none.
@@ -51,7 +51,7 @@ fn put_value(out: &mut [u8], at: usize, bytes: &[u8], rows: &[u64], j: usize) ->
     requires { at + length (value_text bytes.now rows.now j) ≤ length out.old }
     ensures { Wrote at (value_text bytes.now rows.now j) out.old out.new result }
 {
-    let row = u64_in(rows, j);
+    let row = element_or(rows, j, 0);
     if row % 2 == 1 {
         store(out, at, b'-');
         return at + 1;
@@ -72,7 +72,7 @@ fn put_row_line(
     requires { at + length (row_line (table_lists bytes.now rows.now addresses.now) j) ≤ length out.old }
     ensures { Wrote at (row_line (table_lists bytes.now rows.now addresses.now) j) out.old out.new result }
 {
-    let p = put_sixteen(out, at, u64_in(addresses, j));
+    let p = put_sixteen(out, at, element_or(addresses, j, 0));
     store(out, p, b' ');
     let q = put_value(out, p + 1, bytes, rows, j);
     store(out, q, b'\n');

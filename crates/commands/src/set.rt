@@ -9,7 +9,7 @@ ghost use Rattle.commands.specs.Table.{line_before, bytes_for, bytes_in};
 ghost use Rattle.commands.specs.Making.{found_of, Gives};
 
 use crate::lines::{begins_with, is_call, kind_of, same_text, text_of};
-use lists::reads::u16_in;
+use lists::reads::element_or;
 use strings::reading::{Back, read_literal};
 
 // How many bytes were found: c is 0 if there are none, else 1 more than their number.
@@ -33,11 +33,11 @@ fn line_before(
     requires { k < length lines.now }
     ensures { (result ≤ k) × ((a : List ℕ) → let l = lists_of text.now ends.now kinds.now a marks.now places.now lines.now in result ≡ line_before l register.now (row_at l k).place k) }
 {
-    let p = u16_in(places, k);
+    let p = element_or(places, k, 0);
     let mut i = k;
     while i > 0 {
         let j = i - 1;
-        if u16_in(places, j) == p {
+        if element_or(places, j, 0) == p {
             if is_call(text, ends, kinds, marks, lines, j) {
                 return 0;
             }

@@ -10,8 +10,8 @@ use crate::lines::calls_to;
 use crate::set::{bytes_for, bytes_of};
 use csv_rows::held::lists_hold;
 use lists::parts::part;
-use lists::reads::u64_in;
-use lists::stores::{put_bytes, store_u64};
+use lists::reads::element_or;
+use lists::stores::{put_slice, store};
 use rows::answer::Sizes;
 
 // How many bytes and rows the table has, or the number of the question that got a no.
@@ -69,12 +69,12 @@ fn put_row(bytes: &mut [u8], rows: &mut [u64], x: usize, n: usize, c: usize, fou
     ensures row { rows.new ≡ set rows.old n (2 * result + no_mark c) }
 {
     if c == 0 {
-        store_u64(rows, n, 2 * (x as u64) + 1);
+        store(rows, n, 2 * (x as u64) + 1);
         return x;
     }
     let e = x + (c - 1);
-    put_bytes(&mut bytes[x..], part(found, 0, c - 1));
-    store_u64(rows, n, 2 * (e as u64));
+    put_slice(&mut bytes[x..], part(found, 0, c - 1));
+    store(rows, n, 2 * (e as u64));
     e
 }
 
@@ -111,7 +111,7 @@ fn fill(
                 text, ends, kinds, marks, places, lines, register, k, &mut found,
             );
             x = put_row(bytes, rows, x, n, c, &found);
-            store_u64(calls, n, u64_in(addresses, k));
+            store(calls, n, element_or(addresses, k, 0));
             n += 1;
         }
     }

@@ -4,7 +4,7 @@ ghost use Rattle.csv_rows.specs.Format.{doubled};
 ghost use Rattle.csv_rows.specs.Writing.{char_text, frame_size, frames_size, file_size};
 
 use lists::parts::part;
-use lists::reads::u16_in;
+use lists::reads::element_or;
 use rows::answer::Sizes;
 use text::decimal::decimal_length;
 
@@ -43,7 +43,7 @@ fn frames_size(marks: &[u16], places: &[u16], m: usize) -> usize
 {
     let mut n: usize = 0;
     for i in 0..m {
-        n += frame_size(u16_in(marks, i), u16_in(places, i));
+        n += frame_size(element_or(marks, i, 0), element_or(places, i, 0));
     }
     n
 }

@@ -4,7 +4,7 @@ ghost use Rattle.lists.specs.Choice.{pick};
 ghost use Rattle.csv_rows.specs.Filling.{number, address_in, mark_in, place_in, one};
 
 use crate::machine::Effect;
-use lists::stores::{store, store_u16, store_u32, store_u64};
+use lists::stores::store;
 
 // 0 for nothing, 1 for a byte of text, 2 for a kind, 3 for a token's end, 4 for a row's first three fields, 5 for a row's end.
 pub fn number_of(e: Effect) -> u8
@@ -87,7 +87,7 @@ pub fn put_if_u16(out: &mut [u16], t: bool, i: usize, x: u16)
     ensures { out.new ≡ pick t (set out.old i x) out.old }
 {
     if t {
-        store_u16(out, i, x);
+        store(out, i, x);
         return;
     }
 }
@@ -96,7 +96,7 @@ pub fn put_if_u32(out: &mut [u32], t: bool, i: usize, x: u32)
     ensures { out.new ≡ pick t (set out.old i x) out.old }
 {
     if t {
-        store_u32(out, i, x);
+        store(out, i, x);
         return;
     }
 }
@@ -105,7 +105,7 @@ pub fn put_if_u64(out: &mut [u64], t: bool, i: usize, x: u64)
     ensures { out.new ≡ pick t (set out.old i x) out.old }
 {
     if t {
-        store_u64(out, i, x);
+        store(out, i, x);
         return;
     }
 }

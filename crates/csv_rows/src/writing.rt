@@ -10,7 +10,7 @@ use crate::fields::{put_head, put_token};
 use crate::held::{end_at, lists_hold};
 use crate::sizing::file_size;
 use lists::parts::part;
-use lists::reads::{u8_at, u16_in, u64_in};
+use lists::reads::{element_or, u8_at};
 use lists::stores::store;
 use rows::answer::Sizes;
 
@@ -93,9 +93,9 @@ fn put_rows(
     let mut n: usize = 0;
     for i in 0..m {
         let e = end_at(lines, i + 1);
-        let mark = u16_in(marks, i);
-        let address = u64_in(addresses, i);
-        let place = u16_in(places, i);
+        let mark = element_or(marks, i, 0);
+        let address = element_or(addresses, i, 0);
+        let place = element_or(places, i, 0);
         let q = put_head(out, p, mark, address, place);
         p = put_line(out, q, text, ends, kinds, n, e);
         n = e;

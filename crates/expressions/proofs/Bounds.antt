@@ -22,8 +22,7 @@ use Rattle.operand.specs.Operand.{op_tokens}
 use Rattle.operand.proofs.Bounds.{AllBytes, bytes_drop, up_to, Within, nothing, more, one, both, wrapped, register_within, number_within, op_within}
 use Rattle.operand.proofs.Choices.{either, pick_le}
 use Rattle.x86.specs.Mnemonics.{push, call}
-use Rattle.record.specs.declared.search.Found.{Found}
-use Rattle.record.specs.declared.search.Found.TheVariants.{At, Nothing}
+use Rattle.std.specs.Prelude.{Option, Some, None}
 use Rattle.expressions.specs.Condition.{operator, flags_word, relation_or, unsigned_if, flag_writer, body_of, after_cmp, tested, after_writer, condition_after, condition_tokens}
 use Rattle.expressions.specs.Arguments.{comma_if, listed, register_arguments, is_unskipped, pushes_back, pushed, argument_tokens}
 
@@ -110,9 +109,9 @@ module _ (h : Header) (s : List ℕ) (ss : AllBytes s) (shift : nat_abs h.shift 
   unfolding condition_tokens
   condition_within first i cc = go (flag_writer (bodies_of h s) first (i - first))
     where
-      go : (w : Found) → Within 40 1002 (condition_after h s w cc)
-      go (At p) = after_writer_lem p cc
-      go Nothing = more 40 1002 (flags_within cc) (omega arith) (omega arith)
+      go : (w : Option ℕ) → Within 40 1002 (condition_after h s w cc)
+      go (Some p) = after_writer_lem p cc
+      go None = more 40 1002 (flags_within cc) (omega arith) (omega arith)
 
   -- at most 500 pushes stand before a call
   pushed_within : (comma : Bool) (is : List ℕ) → Within (15 * length is) (489 * length is) (pushed h s comma is)

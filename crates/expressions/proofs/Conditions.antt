@@ -10,8 +10,7 @@ use Rattle.tokens.specs.Words.{words, word_token}
 use Rattle.x86.specs.Mnemonics.{is_bt_or_imul}
 use Rattle.x86.specs.Conditions.{relation_after_cmp, relation_after_test, relation_after_other}
 use Rattle.record.specs.declared.header.Header.{Header}
-use Rattle.record.specs.declared.search.Found.{Found}
-use Rattle.record.specs.declared.search.Found.TheVariants.{At, Nothing}
+use Rattle.std.specs.Prelude.{Option, Some, None}
 use Rattle.record.specs.Layout.{bodies_of}
 use Rattle.record.specs.Body.{body_at, mnemonic_of}
 use Rattle.codes.specs.Coded.{Coded}
@@ -85,14 +84,14 @@ module _ (h : Header) (s b : List ℕ) where
     by_other t u = rw (← e, ne_eqb m 38 t, ne_eqb m 39 u)
 
 -- whether there was one
-module _ (h : Header) (s bodies : List ℕ) (first i cc : ℕ) (w : Found) (e : bodies ≡ bodies_of h s) (f : w ≡ flag_writer bodies first (i - first)) where
-  found : (v : Found) → w ≡ v → flag_writer (bodies_of h s) first (i - first) ≡ v
+module _ (h : Header) (s bodies : List ℕ) (first i cc : ℕ) (w : Option ℕ) (e : bodies ≡ bodies_of h s) (f : w ≡ flag_writer bodies first (i - first)) where
+  found : (v : Option ℕ) → w ≡ v → flag_writer (bodies_of h s) first (i - first) ≡ v
   found v t = sym (ap (λ (l : List ℕ). flag_writer l first (i - first)) e) ∙ sym f ∙ t
 
-  pub at_writer : (p : ℕ) (b : List ℕ) → w ≡ At p → b ≡ body_at bodies p → after_writer h s b cc ≡ condition_tokens h s first i cc
+  pub at_writer : (p : ℕ) (b : List ℕ) → w ≡ Some p → b ≡ body_at bodies p → after_writer h s b cc ≡ condition_tokens h s first i cc
   unfolding condition_tokens
-  at_writer p b t u = rw (found (At p) t) (ap (λ (l : List ℕ). after_writer h s l cc) (u ∙ ap (λ (l : List ℕ). body_at l p) e))
+  at_writer p b t u = rw (found (Some p) t) (ap (λ (l : List ℕ). after_writer h s l cc) (u ∙ ap (λ (l : List ℕ). body_at l p) e))
 
-  pub at_none : w ≡ Nothing → flags_word cc ∷ [] ≡ condition_tokens h s first i cc
+  pub at_none : w ≡ None → flags_word cc ∷ [] ≡ condition_tokens h s first i cc
   unfolding condition_tokens
-  at_none t = rw (found Nothing t)
+  at_none t = rw (found None t)

@@ -23,8 +23,7 @@ use Rattle.record.specs.Layout.{bodies_of}
 use Rattle.record.specs.Body.{body_at, mnemonic_of}
 use Rattle.record.proofs.Bodies.{Proper}
 use Rattle.record.specs.Asked.{atlas_asked}
-use Rattle.record.specs.declared.search.Found.{Found}
-use Rattle.record.specs.declared.search.Found.TheVariants.{At, Nothing}
+use Rattle.std.specs.Prelude.{Option, Some, None}
 use Rattle.operand.specs.Alike.{alike}
 use Rattle.operand.specs.Memory.{number}
 use Rattle.operand.specs.Operand.{op_tokens}
@@ -96,9 +95,9 @@ module _ (cc : ℕ) (low : 1 ≤ cc) (high : cc ≤ 16) where
     unfolding condition_tokens flag_writer
     condition_fit first i ok = go (flag_writer (bodies_of h s) first (i - first)) (last_ok (λ k. writes_flags (mnemonic_of (body_at (bodies_of h s) k))) first (i - first))
       where
-        go : (w : Found) → FoundOk (λ k. writes_flags (mnemonic_of (body_at (bodies_of h s) k))) first (i - first) w → Fit (condition_after h s w cc)
-        go (At p) f = after_writer_lem (body_of h s p) (ok p (omega (arith, f.0, f.1)))
-        go Nothing f = flags_fit
+        go : (w : Option ℕ) → FoundOk (λ k. writes_flags (mnemonic_of (body_at (bodies_of h s) k))) first (i - first) w → Fit (condition_after h s w cc)
+        go (Some p) f = after_writer_lem (body_of h s p) (ok p (omega (arith, f.0, f.1)))
+        go None f = flags_fit
 
 -- the pushes before a call
 module _ (h : Header) (s : List ℕ) (asked : atlas_asked h s ≡ true) where

@@ -21,8 +21,7 @@ use Rattle.x86.specs.Flags.{Flags, test, condition_holds}
 use Rattle.x86.proofs.Rule.{flag_rule, rule}
 use Rattle.x86.proofs.Negate.{among_negated, named_turns}
 use Rattle.record.specs.declared.header.Header.{Header}
-use Rattle.record.specs.declared.search.Found.{Found}
-use Rattle.record.specs.declared.search.Found.TheVariants.{At}
+use Rattle.std.specs.Prelude.{Option, Some}
 use Rattle.record.specs.Layout.{bodies_of}
 use Rattle.record.specs.Body.{mnemonic_of}
 use Rattle.operand.specs.Operand.{op_tokens}
@@ -90,10 +89,10 @@ other_number m n t a b e = by (eqb m mnemonic.bt) (eqb m mnemonic.imul) refl ref
     by false false p q t = absurd (let z : ◌≡◌ {A = ℕ} 0 1 = cc in omega arith)
 
 module _ (h : Header) (s : List ℕ) where
-  module _ (first i p k : ℕ) (f : flag_writer (bodies_of h s) first (i - first) ≡ At p) where
+  module _ (first i p k : ℕ) (f : flag_writer (bodies_of h s) first (i - first) ≡ Some p) where
     condition_is : condition_tokens h s first i k ≡ after_writer h s (body_of h s p) k
     unfolding condition_tokens
-    condition_is = ap (λ (x : Found). condition_after h s x k) f
+    condition_is = ap (λ (x : Option ℕ). condition_after h s x k) f
 
     cmp_is : mnemonic_of (body_of h s p) ≡ mnemonic.cmp → condition_tokens h s first i k ≡ after_cmp h s (body_of h s p) k
     unfolding after_writer

@@ -13,8 +13,7 @@ use Rattle.operand.specs.Memory.{number}
 use Rattle.operand.specs.Operand.{op_tokens}
 use Rattle.operand.specs.Alike.{alike}
 use Rattle.record.specs.Search.{last_from}
-use Rattle.record.specs.declared.search.Found.{Found}
-use Rattle.record.specs.declared.search.Found.TheVariants.{At, Nothing}
+use Rattle.std.specs.Prelude.{Option, Some, None}
 
 -- an operator, by the relation that the flag rule proves
 abbrev pub operator : ℕ → Token
@@ -34,7 +33,7 @@ unsigned_if true ts = keyword "(unsigned)" ∷ ts
 unsigned_if false ts = ts
 
 -- of the n instructions from `first` on the last that writes flags; the part given begins at the bodies
-unfoldable pub flag_writer : List ℕ → ℕ → ℕ → Found
+unfoldable pub flag_writer : List ℕ → ℕ → ℕ → Option ℕ
 flag_writer bodies first n = last_from (λ k. writes_flags (mnemonic_of (body_at bodies k))) first n
 
 module _ (h : Header) (s : List ℕ) where
@@ -65,9 +64,9 @@ module _ (h : Header) (s : List ℕ) where
   unfoldable pub after_writer : List ℕ → ℕ → List Token
   after_writer b cc = pick (eqb (mnemonic_of b) cmp) (after_cmp b cc) (pick (eqb (mnemonic_of b) test) (after_test b cc) (after_other b cc))
 
-  abbrev pub condition_after : Found → ℕ → List Token
-  condition_after (At p) cc = after_writer (body_of p) cc
-  condition_after Nothing cc = flags_word cc ∷ []
+  abbrev pub condition_after : Option ℕ → ℕ → List Token
+  condition_after (Some p) cc = after_writer (body_of p) cc
+  condition_after None cc = flags_word cc ∷ []
 
   -- condition cc tested by instruction i of the block whose first instruction is `first`
   unfoldable pub condition_tokens : ℕ → ℕ → ℕ → List Token

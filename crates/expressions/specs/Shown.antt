@@ -13,7 +13,7 @@ use Rattle.x86.specs.Conditions.{related, among, negate}
 use Rattle.x86.specs.Flags.{cmp, test, condition_holds}
 use Rattle.x86.specs.FlagRule.{read_for}
 use Rattle.record.specs.declared.header.Header.{Header}
-use Rattle.record.specs.declared.search.Found.TheVariants.{At}
+use Rattle.std.specs.Prelude.{Some}
 use Rattle.record.specs.Layout.{bodies_of}
 use Rattle.record.specs.Body.{mnemonic_of}
 use Rattle.operand.specs.Memory.{number}
@@ -59,11 +59,11 @@ module _ (h : Header) (s : List ℕ) where
   -- tokens that show condition k, or turned over, as tested by instruction i of a block whose first instruction is `first`: by the
   -- nearest flag writer before it, instruction p
   pub record Shows (first i k : ℕ) (turned : Bool) (ts : List Token) : Type 0 where
-    pub after_cmp_lem : (p : ℕ) → flag_writer (bodies_of h s) first (i - first) ≡ At p → mnemonic_of (body_of h s p) ≡ mnemonic.cmp
+    pub after_cmp_lem : (p : ℕ) → flag_writer (bodies_of h s) first (i - first) ≡ Some p → mnemonic_of (body_of h s p) ≡ mnemonic.cmp
         → among k "e ne b ae be a l ge le g" ≡ true → AfterCmp (body_of h s p) k turned ts
-    pub after_test_lem : (p : ℕ) → flag_writer (bodies_of h s) first (i - first) ≡ At p → mnemonic_of (body_of h s p) ≡ mnemonic.test
+    pub after_test_lem : (p : ℕ) → flag_writer (bodies_of h s) first (i - first) ≡ Some p → mnemonic_of (body_of h s p) ≡ mnemonic.test
         → among k "e ne s ns l ge le g" ≡ true → AfterTest (body_of h s p) k turned ts
     -- "After either of them, the conditions e, ne, s and ns now print the `__flags_` word with the condition's name": no relation is claimed
     -- after BT and IMUL, of any condition
-    pub after_bt_imul : (p : ℕ) → flag_writer (bodies_of h s) first (i - first) ≡ At p → is_bt_or_imul (mnemonic_of (body_of h s p)) ≡ true
+    pub after_bt_imul : (p : ℕ) → flag_writer (bodies_of h s) first (i - first) ≡ Some p → is_bt_or_imul (mnemonic_of (body_of h s p)) ≡ true
         → ts ≡ flags_word (pick turned (negate k) k) ∷ []

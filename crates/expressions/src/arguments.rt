@@ -15,7 +15,7 @@ ghost use Rattle.operand.specs.Lent.{Lent};
 use codes::code::{code_register, code_word};
 use codes::tables::isa_of;
 use flow::silent::is_skipped;
-use lists::reads::from;
+use lists::parts::from;
 use operand::operand::op;
 use record::body::{body_at, mnemonic, op_count, op_kind, op_register};
 use record::header::Header;

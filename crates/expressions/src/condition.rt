@@ -13,13 +13,12 @@ ghost use Rattle.operand.specs.Lent.{Lent};
 
 use codes::code::{code_num, code_word};
 use codes::tables::isa_of;
-use lists::reads::from;
+use lists::parts::from;
 use operand::alike::alike;
 use operand::operand::op;
 use record::body::{body_at, mnemonic};
 use record::header::Header;
 use record::layout::bodies_at;
-use record::search::Found;
 use tokens::words::{AND, CLOSE, EQUAL, OPEN, UNSIGNED};
 use x86::conditions::{
     prints_unsigned, relation_after_cmp, relation_after_other, relation_after_test,
@@ -34,7 +33,7 @@ pub fn body_of(rec: &[u8], h: Header, i: u16) -> &[u8]
 }
 
 // The last instruction before i, from `first` on, that writes flags.
-fn flag_writer(isa: &[u8], bodies: &[u8], first: u16, i: u16) -> Found
+fn flag_writer(isa: &[u8], bodies: &[u8], first: u16, i: u16) -> Option<u16>
     requires { isa.now ≡ isa_bytes }
     ensures { result ≡ flag_writer bodies.now first (i - first) }
 {
@@ -42,11 +41,11 @@ fn flag_writer(isa: &[u8], bodies: &[u8], first: u16, i: u16) -> Found
     while first < k {
         let j = k - 1;
         if writes_flags(isa, mnemonic(body_at(bodies, j))) {
-            return Found::At(j);
+            return Some(j);
         }
         k = j;
     }
-    Found::Nothing
+    None
 }
 
 // `__flags_` and the condition's name; for a number that names no condition an empty text.
@@ -185,7 +184,7 @@ pub fn condition(
 {
     let bodies = from(rec, bodies_at(h));
     match flag_writer(isa_of(tables), bodies, first, i) {
-        Found::At(p) => after_writer(codes, tables, rec, h, body_at(bodies, p), cc),
-        Found::Nothing => code_flags(codes, tables, cc),
+        Some(p) => after_writer(codes, tables, rec, h, body_at(bodies, p), cc),
+        None => code_flags(codes, tables, cc),
     }
 }

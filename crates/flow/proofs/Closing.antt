@@ -11,7 +11,7 @@ use Rattle.lists.specs.Choice.{pick, any_below}
 use Rattle.lists.specs.Every.{both_yes}
 use Rattle.lists.specs.Below.{all_at}
 use Rattle.record.specs.declared.header.Header.{Header}
-use Rattle.record.specs.declared.search.Found.TheVariants.{At}
+use Rattle.std.specs.Prelude.{Some}
 use Rattle.record.specs.Header.{header_of}
 use Rattle.record.specs.Layout.{starts_of, marks_of, targets_of, edge_kinds_of, bodies_of}
 use Rattle.record.specs.Blocks.{start_at, instructions_in, edges_in, first_edge, target_at, edge_kind_at}
@@ -45,7 +45,7 @@ found_is numbers x k zero i e l = absurd (omega arith)
 found_is numbers x k (suc n) i e l = go (eqb (number_at numbers k) x) refl (λ q. found_is numbers x (suc k) n i q l) e
   where
     go : (b : Bool) → eqb (number_at numbers k) x ≡ b → (place_found (find_from numbers x (suc k) n) ≡ i → number_at numbers i ≡ x)
-        → place_found (pick b (At k) (find_from numbers x (suc k) n)) ≡ i → number_at numbers i ≡ x
+        → place_found (pick b (Some k) (find_from numbers x (suc k) n)) ≡ i → number_at numbers i ≡ x
     go true q ih e = ap (number_at numbers) (sym e) ∙ eqb-true (number_at numbers k) x q
     go false q ih e = ih e
 

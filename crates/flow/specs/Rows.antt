@@ -6,8 +6,7 @@ use Rattle.record.specs.Layout.{starts_of, marks_of, targets_of, edge_kinds_of, 
 use Rattle.record.specs.Blocks.{instructions_in, edges_in, label_mark, first_instruction, first_edge, target_at, edge_kind_at}
 use Rattle.record.specs.Body.{body_at, operand_number}
 use Rattle.record.specs.Search.{find_from}
-use Rattle.record.specs.declared.search.Found.{Found}
-use Rattle.record.specs.declared.search.Found.TheVariants.{At, Nothing}
+use Rattle.std.specs.Prelude.{Option, Some, None}
 use Rattle.flow.specs.Silent.{is_silent_itself, ending_of}
 
 -- the rows of n numbers from k on
@@ -16,9 +15,9 @@ rows_from f k zero = []
 rows_from f k (suc n) = f k ++ rows_from f (suc k) n
 
 -- the place that a search found; 65535 if it found none
-abbrev pub place_found : Found → ℕ
-place_found (At k) = k
-place_found Nothing = 65535
+abbrev pub place_found : Option ℕ → ℕ
+place_found (Some k) = k
+place_found None = 65535
 
 module _ (h : Header) (s : List ℕ) where
   -- the place of the first block that starts at an address; question 6 makes it the only one

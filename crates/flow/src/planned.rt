@@ -7,8 +7,7 @@ ghost use Rattle.flow.specs.Counted.{Plannable};
 ghost use Rattle.flow.specs.Planned.{record_codes, record_looks};
 
 use crate::rows::{edge_rows, shown_rows};
-use lists::parts::{part, part_u16};
-use lists::reads::from as part_from;
+use lists::parts::{from as part_from, part};
 use record::header::Header;
 use record::layout::{size, targets_at};
 use structure::blocks::Written;
@@ -35,7 +34,7 @@ fn plan_edges(
     let mut shown = [0u8; 500];
     edge_rows(rec, h, edges);
     shown_rows(isa, rec, h, &mut shown);
-    let e = part_u16(edges, 2 * size(h.edges));
+    let e = part(edges, 0, 2 * size(h.edges));
     let s = part(&shown, 0, size(h.instructions));
     plan(
         blocks,

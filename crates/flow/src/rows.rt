@@ -12,23 +12,23 @@ ghost use Rattle.flow.specs.Rows.{place_found, place_of, block_rows, edge_rows, 
 ghost use Rattle.flow.specs.Counted.{Counted, BlockHas, row_ending};
 
 use crate::silent::{class_table, ending_of, is_silent_itself, silent_class};
-use lists::reads::from;
-use lists::stores::{store, store_u16};
+use lists::parts::from;
+use lists::stores::store;
 use record::blocks::{
     Address, Place, edge_kind_at, edges_in, instructions_in, label_mark, starts_rise, target_at,
 };
 use record::body::{body_at, mnemonic, op_number, skip_mark};
 use record::header::Header;
 use record::layout::{bodies_at, edge_kinds_at, marks_at, size, targets_at};
-use record::search::{Found, first_of, search};
+use record::search::{first_of, search};
 
 // The place that a search found, or 65535.
 fn place_found(found: Found) -> Place
     ensures { result.0 ≡ place_found found }
 {
     match found {
-        Found::At(k) => Place(k),
-        Found::Nothing => Place(65535),
+        Some(k) => Place(k),
+        None => Place(65535),
     }
 }
 
@@ -55,8 +55,8 @@ fn put_two(out: &mut [u16], at: usize, a: u16, b: u16)
     requires { at < 1_000_000 }
     ensures { out.new ≡ put at (a ∷ b ∷ []) out.old }
 {
-    store_u16(out, at, a);
-    store_u16(out, at + 1, b);
+    store(out, at, a);
+    store(out, at + 1, b);
 }
 
 fn put_four(out: &mut [u16], at: usize, a: u16, b: u16, c: u16, d: u16)

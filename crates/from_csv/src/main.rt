@@ -9,7 +9,7 @@ ghost use Rattle.page.specs.Page.{refusal};
 ghost use Rattle.from_csv.specs.Output.{part_count, page_part, Prints};
 
 use csv_rows::reading::read_rows;
-use lists::parts::{part, part_u16, part_u32, part_u64};
+use lists::parts::part;
 use page::number::put_refusal;
 use page::page::{put_count, put_lines};
 use rows::answer::Answer;
@@ -88,10 +88,10 @@ fn answer_with(
             out,
             p,
             part(text, 0, z.text),
-            part_u32(ends, z.tokens),
-            part_u32(lines, z.lines),
-            part_u64(addresses, z.lines),
-            part_u16(marks, z.lines),
+            part(ends, 0, z.tokens),
+            part(lines, 0, z.lines),
+            part(addresses, 0, z.lines),
+            part(marks, 0, z.lines),
         ),
         Answer::No(n) => put_refused(out, p, n),
     }

@@ -54,7 +54,7 @@ module _ {s : List ℕ} {i : ℕ} (w : Seeking s i) where
   unfolding line_size
   seek_found h e =
       let z : line_size (drop i s) ≡ 0 = ap line_size (drop-cons s i 0 h) ∙ rw (eq-eqb (get_or s i 0) 10 e) in
-      (omega (arith, w.size, z), w.within)
+      (omega (arith, w.size, z), w.min)
 
   pub seek_further : i < length s → (get_or s i 0 ≡ 10 → ⊥) → Seeking s (i + 1)
   unfolding line_size
@@ -66,7 +66,7 @@ module _ {s : List ℕ} {i : ℕ} (w : Seeking s i) where
   unfolding line_size
   seek_end h =
       let z : line_size (drop i s) ≡ 0 = ap line_size (drop_of_length-le s {i = i} h) in
-      (omega (arith, w.size, z), w.within)
+      (omega (arith, w.size, z), w.min)
 
 some_taken : (n : ℕ) (s : List ℕ) → (n ≡ 0 → ⊥) → n ≤ length s → some (take n s) ≡ true
 some_taken zero s h k = absurd (h refl)

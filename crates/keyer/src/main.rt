@@ -10,8 +10,7 @@ ghost use Rattle.keyer.specs.Parts.{line_size, commands_text, PrintsTable};
 use commands::printed::put_table;
 use commands::table::{Tabled, command_table};
 use csv_rows::reading::read_rows;
-use lists::parts::{part, part_u64};
-use lists::reads::from;
+use lists::parts::{from, part};
 use page::number::put_refusal;
 use rows::answer::{Answer, Sizes};
 use stdio::input::{bytes_read, read_input};
@@ -59,8 +58,8 @@ fn put_commands(
         Tabled::Entries(x, n) => put_table(
             out,
             part(&bytes, 0, x),
-            part_u64(&rows, n),
-            part_u64(&calls, n),
+            part(&rows, 0, n),
+            part(&calls, 0, n),
             n,
         ),
         Tabled::No(n) => put_refusal(out, n),

@@ -21,8 +21,7 @@ use Rattle.x86.specs.Width.{return_register}
 use Rattle.record.specs.declared.header.Header.{Header}
 use Rattle.record.specs.Layout.{starts_at, starts_of}
 use Rattle.record.specs.Body.{mnemonic_of, condition_of, operand_count, operand_at, name_of}
-use Rattle.record.specs.declared.search.Found.{Found}
-use Rattle.record.specs.declared.search.Found.TheVariants.{At, Nothing}
+use Rattle.std.specs.Prelude.{Option, Some, None}
 use Rattle.operand.specs.Names.{entry_at, name_or_at, name_or}
 use Rattle.operand.proofs.Bounds.{AllBytes, bytes_drop, u64_small, up_to, Within, nothing, more, one, both, register_within, number_within, name_within, mem_within}
 use Rattle.operand.proofs.Choices.{pick_le}
@@ -128,9 +127,9 @@ module _ (h : Header) (s : List ℕ) (ss : AllBytes s) (shift : nat_abs h.shift 
   unfolding name_or prefixed
   target_within va w p = go (entry_at h s va) (name_within h s ss va (symbol "loc_") (omega arith) p)
     where
-      go : (e : Found) → Within 1 486 (name_or_at h s e va (symbol "loc_") ∷ []) → Within 1 (486 + length w.bytes) (name_or_at h s e va w ∷ [])
-      go (At k) t = more _ _ t (omega arith) (omega arith)
-      go Nothing t = one _ _ (rw length-append (omega (arith, hex_64 true va p)))
+      go : (e : Option ℕ) → Within 1 486 (name_or_at h s e va (symbol "loc_") ∷ []) → Within 1 (486 + length w.bytes) (name_or_at h s e va w ∷ [])
+      go (Some k) t = more _ _ t (omega arith) (omega arith)
+      go None t = one _ _ (rw length-append (omega (arith, hex_64 true va p)))
 
   piece_within : (c : Site) → c.at ≤ 500 → (p : Piece) → Within (most_tokens p) (most p) (piece_tokens h s c p)
   unfolding piece_tokens

@@ -12,7 +12,8 @@ ghost use Rattle.line.specs.Print.{insn_name, name_length, assembled, assembly_t
 use codes::code::{code_mnemonic, code_part, code_word};
 use codes::state::set_plain;
 use expressions::arguments::code_listed;
-use lists::reads::{from, u8_at};
+use lists::parts::from;
+use lists::reads::u8_at;
 use record::body::{mnemonic, op_count};
 use record::header::Header;
 use record::layout::bodies_at;

@@ -17,7 +17,8 @@ use codes::state::put_end;
 use codes::tables::isa_of;
 use expressions::arguments::written_after;
 use expressions::condition::body_of;
-use lists::reads::{from, u16_in};
+use lists::parts::from;
+use lists::reads::element_or;
 use record::body::{body_at, mnemonic};
 use record::header::Header;
 use record::layout::{bodies_at, size};
@@ -77,7 +78,7 @@ fn code_tokens(
 {
     let place = place_of_line(code);
     let i = instruction_of(code);
-    let first = u16_in(blocks, 8 * size(place));
+    let first = element_or(blocks, 8 * size(place), 0);
     let what = what_of(code);
     let form = line_form(isa_of(tables), rows, rec, h, what, first, i);
     let site = Site {

@@ -17,7 +17,7 @@ use codes::code::{code_num, code_prefixed, code_register, code_word};
 use codes::tables::isa_of;
 use expressions::arguments::arguments;
 use expressions::condition::condition;
-use lists::reads::from;
+use lists::parts::from;
 use operand::memory::mem;
 use operand::names::name_or;
 use operand::operand::op;

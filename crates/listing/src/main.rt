@@ -5,7 +5,7 @@ ghost use Rattle.std.specs.Prelude.{◌≤◌, length, take};
 ghost use Rattle.page.specs.Page.{page_of};
 ghost use Rattle.program.specs.Output.{Prints};
 
-use lists::parts::{part, part_u16, part_u32, part_u64};
+use lists::parts::part;
 use page::number::put_refusal;
 use page::page::put_page;
 use pseudo::call::list;
@@ -46,10 +46,10 @@ fn answer(rec: &[u8], out: &mut [u8]) -> usize
             out,
             z.lines,
             part(&text, 0, z.text),
-            part_u32(&ends, z.tokens),
-            part_u32(&lines, z.lines),
-            part_u64(&addresses, z.lines),
-            part_u16(&marks, z.lines),
+            part(&ends, 0, z.tokens),
+            part(&lines, 0, z.lines),
+            part(&addresses, 0, z.lines),
+            part(&marks, 0, z.lines),
         ),
         Answer::No(n) => put_refusal(out, n),
     }

@@ -30,8 +30,7 @@ use Rattle.record.specs.declared.header.Header.{Header}
 use Rattle.record.specs.Layout.{pairs_at, pairs_of}
 use Rattle.record.specs.Atlas.{entry_kind}
 use Rattle.record.specs.Body.{operand_kind, operand_at, segment_of, scale_of, index_of, memory_size, memory_address}
-use Rattle.record.specs.declared.search.Found.{Found}
-use Rattle.record.specs.declared.search.Found.TheVariants.{At, Nothing}
+use Rattle.std.specs.Prelude.{Option, Some, None}
 use Rattle.operand.specs.Expr.{Expr, wrap, wrap_if}
 use Rattle.operand.specs.Names.{entry_at, entry_token, name_or_at, name_or, in_span, is_literal}
 use Rattle.operand.specs.Memory.{register_token, number, prefix_word, address_of, is_negative, is_shifted, slot_base, slot_displacement, slot_number, is_slot, slot_token, displacement, scaled, registers, address_expr, is_segment_read, is_global, segment_read, global, address, mem_expr, mem_tokens}
@@ -167,9 +166,9 @@ module _ (h : Header) (s : List ℕ) (ss : AllBytes s) where
   unfolding name_or
   name_within va w l p = go (entry_at h s va)
     where
-      go : (e : Found) → Within 1 486 (name_or_at h s e va w ∷ [])
-      go (At k) = entry_within k
-      go Nothing = more 1 486 (one (prefixed w va) 46 (prefixed_short w va l p)) (omega arith) (omega arith)
+      go : (e : Option ℕ) → Within 1 486 (name_or_at h s e va w ∷ [])
+      go (Some k) = entry_within k
+      go None = more 1 486 (one (prefixed w va) 46 (prefixed_short w va l p)) (omega arith) (omega arith)
 
 read_abs : (kind v : ℕ) → nat_abs (signed_read kind v) ≤ 18446744073709551615
 unfolding signed_read

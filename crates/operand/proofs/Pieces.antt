@@ -11,8 +11,7 @@ use Rattle.lists.specs.Choice.{pick}
 use Rattle.tokens.specs.Token.{Token, punct}
 use Rattle.tokens.specs.Words.{words, word_token, prefixed}
 use Rattle.record.specs.declared.header.Header.{Header}
-use Rattle.record.specs.declared.search.Found.{Found}
-use Rattle.record.specs.declared.search.Found.TheVariants.{At, Nothing}
+use Rattle.std.specs.Prelude.{Option, Some, None}
 use Rattle.record.specs.Layout.{pairs_of}
 use Rattle.record.specs.Atlas.{entry_kind}
 use Rattle.record.specs.Body.{segment_of, index_of, scale_of, memory_size, memory_address}
@@ -136,14 +135,14 @@ module _ {t s c c₁ c₂ : List ℕ} where
   -- n is the kind of entry k
   pub entry_addressed : (h : Header) (k n : ℕ) (deref : Bool) (pairs : List ℕ) → pairs ≡ pairs_of h s → n ≡ entry_kind pairs k
       → Coded t s c c₁ (pick (not (deref || not (eqb n 3))) (word_token 5 ∷ []) []) → Coded t s c₁ c₂ (entry_token h s k ∷ [])
-      → Coded t s c c₂ (address_of (deref || literal_at h s (At k)) (entry_token h s k))
+      → Coded t s c c₂ (address_of (deref || literal_at h s (Some k)) (entry_token h s k))
   entry_addressed h k n deref pairs e q f g = rw (← e, ← q) (addressed (deref || not (eqb n 3)) f g)
 
 -- a global that has no entry
-pub nothing_found : (h : Header) (s b : List ℕ) (deref : Bool) (found : Found) (va m w : ℕ)
+pub nothing_found : (h : Header) (s b : List ℕ) (deref : Bool) (found : Option ℕ) (va m w : ℕ)
     → va ≡ memory_address b → found ≡ entry_at h s va → m ≡ memory_size b → word_token w ≡ prefix_word m
-    → found ≡ Nothing → address_of deref (prefixed (word_token w) va) ≡ global h s deref b
-nothing_found h s b deref found va m w p q r t e = go deref ∙ global_found h s b deref Nothing va m w p (sym e ∙ q) r t
+    → found ≡ None → address_of deref (prefixed (word_token w) va) ≡ global h s deref b
+nothing_found h s b deref found va m w p q r t e = go deref ∙ global_found h s b deref None va m w p (sym e ∙ q) r t
   where
     go : (d : Bool) → address_of d (prefixed (word_token w) va) ≡ address_of (d || false) (prefixed (word_token w) va)
     go true = refl

@@ -14,8 +14,7 @@ use Rattle.record.specs.Body.{index_of, scale_of, memory_size, memory_address}
 use Rattle.operand.specs.declared.numbers.Sized.{Sized}
 use Rattle.record.specs.Layout.{pairs_of}
 use Rattle.record.specs.Atlas.{entry_kind}
-use Rattle.record.specs.declared.search.Found.{Found}
-use Rattle.record.specs.declared.search.Found.TheVariants.{At, Nothing}
+use Rattle.std.specs.Prelude.{Option, Some, None}
 use Rattle.operand.specs.Expr.{Expr}
 use Rattle.operand.specs.Names.{entry_at, entry_token, name_or_at, name_or, literal_at}
 use Rattle.x86.specs.Width.{is_stack_pointer}
@@ -44,17 +43,17 @@ module _ (h : Header) (b : List ℕ) where
   slot_read n s w k p q r e = rw (e, r, q, p)
 
 -- a literal stands for an address where one was found
-literal_found : (h : Header) (s : List ℕ) (e : Found) (va : ℕ) → eqb (name_or_at h s e va (symbol "unk_")).kind 5 ≡ literal_at h s e
+literal_found : (h : Header) (s : List ℕ) (e : Option ℕ) (va : ℕ) → eqb (name_or_at h s e va (symbol "unk_")).kind 5 ≡ literal_at h s e
 unfolding entry_token prefixed
-literal_found h s (At k) va = go _ _ (eqb (entry_kind (pairs_of h s) k) 3)
+literal_found h s (Some k) va = go _ _ (eqb (entry_kind (pairs_of h s) k) 3)
   where
     go : (x y : List ℕ) (t : Bool) → eqb (pick t (token 4 x) (token 5 y)).kind 5 ≡ not t
     go x y true = refl
     go x y false = refl
-literal_found h s Nothing va = refl
+literal_found h s None va = refl
 
 -- a global, by what was found
-pub global_found : (h : Header) (s b : List ℕ) (deref : Bool) (found : Found) (va m w : ℕ)
+pub global_found : (h : Header) (s b : List ℕ) (deref : Bool) (found : Option ℕ) (va m w : ℕ)
     → va ≡ memory_address b → found ≡ entry_at h s va → m ≡ memory_size b → word_token w ≡ prefix_word m
     → address_of (deref || literal_at h s found) (name_or_at h s found va (word_token w)) ≡ global h s deref b
 unfolding name_or

@@ -9,12 +9,11 @@ use Rattle.record.specs.declared.header.Header.{Header}
 use Rattle.record.specs.Layout.{entries_of, pairs_of, texts_of, spans_of}
 use Rattle.record.specs.Atlas.{entry_kind, entry_text, span_first, span_last}
 use Rattle.record.specs.Search.{find_from}
-use Rattle.record.specs.declared.search.Found.{Found}
-use Rattle.record.specs.declared.search.Found.TheVariants.{At, Nothing}
+use Rattle.std.specs.Prelude.{Option, Some, None}
 
 module _ (h : Header) (s : List ℕ) where
   -- the first entry that stands at the address: rising addresses make it the only one
-  unfoldable pub entry_at : ℕ → Found
+  unfoldable pub entry_at : ℕ → Option ℕ
   entry_at va = find_from (entries_of h s) va 0 h.atlas
 
   -- the token of entry k: kind 1 string, 2 wide string, 3 name
@@ -24,9 +23,9 @@ module _ (h : Header) (s : List ℕ) where
       let t = entry_text (pairs_of h s) (texts_of h s) k in
       pick (eqb kind 3) (token 4 t) (token 5 (literal_text (eqb kind 2) t))
 
-  abbrev pub name_or_at : Found → ℕ → Token → Token
-  name_or_at (At k) va prefix = entry_token k
-  name_or_at Nothing va prefix = prefixed prefix va
+  abbrev pub name_or_at : Option ℕ → ℕ → Token → Token
+  name_or_at (Some k) va prefix = entry_token k
+  name_or_at None va prefix = prefixed prefix va
 
   -- the token for an address, with a prefix where no entry has it
   unfoldable pub name_or : ℕ → Token → Token
@@ -37,9 +36,9 @@ module _ (h : Header) (s : List ℕ) where
   is_literal va = eqb (name_or va (symbol "unk_")).kind 5
 
   -- the same of what a search found: an entry that is no name
-  abbrev pub literal_at : Found → Bool
-  literal_at (At k) = not (eqb (entry_kind (pairs_of h s) k) 3)
-  literal_at Nothing = false
+  abbrev pub literal_at : Option ℕ → Bool
+  literal_at (Some k) = not (eqb (entry_kind (pairs_of h s) k) 3)
+  literal_at None = false
 
   -- the address lies in a span, "both included"
   unfoldable pub in_span : ℕ → Bool

@@ -12,7 +12,7 @@ ghost use Rattle.operand.specs.Alone.{Alone};
 use crate::operand::op;
 use codes::read::{codes_of, same_texts};
 use codes::state::start;
-use lists::reads::u64_in;
+use lists::reads::element_or;
 use record::header::Header;
 
 // Operand i alone, from the first code on.
@@ -49,8 +49,8 @@ pub fn alike(tables: &[u8], rec: &[u8], h: Header, body: &[u8]) -> bool
     let mut second = [0u64; 33];
     code_alone(&mut first, tables, rec, h, body, 0);
     code_alone(&mut second, tables, rec, h, body, 1);
-    let n = u64_in(&first, 0);
-    if n != u64_in(&second, 0) {
+    let n = element_or(&first, 0, 0);
+    if n != element_or(&second, 0, 0) {
         return false;
     }
     let a = codes_of(&first);

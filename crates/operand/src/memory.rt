@@ -3,7 +3,7 @@ ghost use Rattle.std.specs.Prelude.{true, false, ◌||◌, [], ◌∷◌, List, 
 ghost use Rattle.lists.specs.Choice.{pick};
 ghost use Rattle.tokens.specs.Token.{punct, register};
 ghost use Rattle.tokens.specs.Words.{word_token, prefixed};
-ghost use Rattle.record.specs.declared.search.Found.TheVariants.{At};
+ghost use Rattle.std.specs.Prelude.{Some};
 ghost use Rattle.operand.specs.Names.{entry_token, literal_at};
 ghost use Rattle.operand.specs.Memory.{register_token, number, type_word, prefix_word, segment_word, segment_read, global, slot_token, address_of, scaled, registers, address_expr, address, is_segment_read, is_global, mem_tokens};
 ghost use Rattle.codes.specs.Coded.{Coded};
@@ -13,14 +13,13 @@ ghost use Rattle.operand.specs.Lent.{Lent};
 use crate::names::{code_entry, entry_at};
 use crate::slots::{displacement, is_slot, slot_base, slot_number};
 use codes::code::{code_num, code_prefixed, code_register, code_word};
-use lists::reads::from;
+use lists::parts::from;
 use record::atlas::entry_kind;
 use record::body::{
     memory_address, memory_base, memory_index, memory_index_scale, memory_segment, memory_size,
 };
 use record::header::Header;
 use record::layout::pairs_at;
-use record::search::Found;
 use tokens::words::{
     ADDRESS_OF, ARG, AT_U8, BYTE, CLOSE, MINUS, OPEN, PLUS, READ_FS_BYTE, READ_FS_DWORD,
     READ_FS_QWORD, READ_GS_BYTE, READ_GS_DWORD, READ_GS_QWORD, TIMES, VAR,
@@ -149,7 +148,7 @@ fn code_if(codes: &mut [u64], tables: &[u8], w: u8, wanted: bool)
 // A global that has an entry: only of a name is there an address.
 fn code_named(codes: &mut [u64], tables: &[u8], rec: &[u8], h: Header, k: u16, deref: bool)
     requires { (5 ≤ length codes.old) × (tables.now ≡ table_bytes) }
-    ensures { Coded tables.now rec.now codes.old codes.new (address_of (deref || literal_at h rec.now (At k)) (entry_token h rec.now k)) }
+    ensures { Coded tables.now rec.now codes.old codes.new (address_of (deref || literal_at h rec.now (Some k)) (entry_token h rec.now k)) }
 {
     let plain = deref | (entry_kind(from(rec, pairs_at(h)), k) != 3);
     code_if(codes, tables, ADDRESS_OF, !plain);
@@ -174,8 +173,8 @@ fn code_global(codes: &mut [u64], tables: &[u8], rec: &[u8], h: Header, body: &[
     let va = memory_address(body);
     let w = prefix_word(memory_size(body));
     match entry_at(rec, h, va) {
-        Found::At(k) => code_named(codes, tables, rec, h, k, deref),
-        Found::Nothing => code_unnamed(codes, tables, w, va, deref),
+        Some(k) => code_named(codes, tables, rec, h, k, deref),
+        None => code_unnamed(codes, tables, w, va, deref),
     }
 }
 

@@ -10,14 +10,15 @@ ghost use Rattle.codes.specs.Coded.{Coded};
 ghost use Rattle.operand.specs.Lent.{Lent};
 
 use codes::code::{code_literal, code_part, code_prefixed};
-use lists::reads::{from, plain_u64};
+use lists::parts::from;
+use lists::reads::plain_u64;
 use record::atlas::{entry_kind, entry_length, span_first, span_last, text_start};
 use record::header::Header;
 use record::layout::{entries_at, pairs_at, spans_at, texts_at};
-use record::search::{Found, search};
+use record::search::search;
 
 // The entry at an address.
-pub fn entry_at(rec: &[u8], h: Header, va: u64) -> Found
+pub fn entry_at(rec: &[u8], h: Header, va: u64) -> Option<u16>
     requires { Rising h rec.now }
     ensures { result ≡ entry_at h rec.now va }
 {
@@ -84,7 +85,7 @@ pub fn name_or(codes: &mut [u64], tables: &[u8], rec: &[u8], h: Header, va: u64,
     ensures { Coded tables.now rec.now codes.old codes.new (name_or h rec.now va (word_token w) ∷ []) }
 {
     match entry_at(rec, h, va) {
-        Found::At(k) => code_entry(codes, tables, rec, h, k),
-        Found::Nothing => code_prefixed(codes, tables, w, va),
+        Some(k) => code_entry(codes, tables, rec, h, k),
+        None => code_prefixed(codes, tables, w, va),
     }
 }

@@ -3,8 +3,7 @@ ghost use Rattle.std.specs.Prelude.{◌≡◌, ◌+◌, ◌*◌, ◌%◌, ◌^�
 ghost use Rattle.lists.specs.Put.{put};
 ghost use Rattle.page.specs.Page.{address_text, line_of};
 
-use lists::reads::within;
-use lists::stores::{put_bytes, store};
+use lists::stores::{put_slice, store};
 use text::number::{hex_count, put_hex};
 
 // The same byte n times.
@@ -20,8 +19,8 @@ fn put_run(out: &mut [u8], at: usize, n: usize, b: u8)
 fn put_text(out: &mut [u8], at: usize, s: &[u8])
     ensures { out.new ≡ put at s.now out.old }
 {
-    let m = within(at, out.len());
-    put_bytes(&mut out[m..], s);
+    let m = at.min(out.len());
+    put_slice(&mut out[m..], s);
 }
 
 // Sixteen bytes.
@@ -35,7 +34,7 @@ fn put_address(out: &mut [u8], at: usize, mark: u16, address: u64)
     }
     let zeros = 16 - hex_count(address);
     put_run(out, at, zeros, b'0');
-    let m = within(at + zeros, out.len());
+    let m = (at + zeros).min(out.len());
     put_hex(&mut out[m..], true, address);
 }
 

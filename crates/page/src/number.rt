@@ -4,7 +4,7 @@ ghost use Rattle.lists.specs.Put.{put};
 ghost use Rattle.page.specs.Page.{numbered, refusal, stored_output};
 
 use lists::stored::Stored;
-use lists::stores::{put_bytes, store};
+use lists::stores::{put_slice, store};
 use text::decimal::put_decimal;
 
 // A line of a word and a number; answers where it ends.
@@ -13,7 +13,7 @@ pub fn put_numbered(out: &mut [u8], word: &[u8], n: u16) -> usize
     ensures end { (result ≡ length (numbered word.now n)) × (result ≤ 12) }
     ensures text { out.new ≡ put 0 (numbered word.now n) out.old }
 {
-    let w = put_bytes(out, word);
+    let w = put_slice(out, word);
     let end = put_decimal(out, w, n);
     store(out, end, b'\n');
     end + 1

@@ -7,8 +7,8 @@ ghost use Rattle.page.specs.Page.{count_line, tokens_end, lines_end, lines_text,
 use crate::entries::u32_in;
 use crate::line::put_line;
 use crate::number::put_numbered;
-use lists::parts::part;
-use lists::reads::{from, u16_in, u64_in};
+use lists::parts::{from, part};
+use lists::reads::element_or;
 
 fn wide(x: u32) -> usize
     ensures { result ≡ x }
@@ -23,7 +23,7 @@ fn tokens_end(ends: &[u32], k: u32) -> usize
     if k == 0 {
         return 0;
     }
-    wide(u32_in(ends, wide(k) - 1))
+    wide(element_or(ends, wide(k) - 1, 0))
 }
 
 // Where the first i lines end.
@@ -33,7 +33,7 @@ fn lines_end(ends: &[u32], lines: &[u32], i: usize) -> usize
     if i == 0 {
         return 0;
     }
-    tokens_end(ends, u32_in(lines, i - 1))
+    tokens_end(ends, element_or(lines, i - 1, 0))
 }
 
 // The bytes from one place up to another.
@@ -71,9 +71,15 @@ pub fn put_lines(
     let mut start = lines_end(ends, lines, i);
     let mut p = at;
     for j in i..last {
-        let end = tokens_end(ends, u32_in(lines, j));
+        let end = tokens_end(ends, element_or(lines, j, 0));
         let bytes = between(text, start, end);
-        p = put_line(out, p, u16_in(marks, j), u64_in(addresses, j), bytes);
+        p = put_line(
+            out,
+            p,
+            element_or(marks, j, 0),
+            element_or(addresses, j, 0),
+            bytes,
+        );
         start = end;
     }
     p

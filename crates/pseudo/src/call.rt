@@ -20,8 +20,8 @@ use codes::tables::{isa_of, tables};
 use flow::planned::plan_record;
 use flow::rows::block_rows;
 use line::rows::row_table;
-use lists::parts::{part_u16, part_u64};
-use lists::reads::u16_in;
+use lists::parts::part;
+use lists::reads::element_or;
 use record::asked::{Asked, record};
 use record::header::Header;
 use record::layout::size;
@@ -151,8 +151,8 @@ fn list_planned(
     ensures looks { LooksCounted rec.now from to result.answer result.looks }
 {
     let planned = plan_record(isa_of(tables), rec, h, blocks, from, to, made);
-    let plan = part_u64(made, planned.next);
-    let range = u16_in(blocks, 8 * size(from));
+    let plan = part(made, 0, planned.next);
+    let range = element_or(blocks, 8 * size(from), 0);
     let answer = list_plan(
         text, ends, kinds, addresses, marks, places, lines, tables, rec, h, rows, blocks, range,
         plan,
@@ -189,7 +189,7 @@ fn list_range(
     let row = row_table();
     let rows: &[u8] = &row;
     block_rows(rec, h, block);
-    let blocks = part_u16(block, 8 * size(h.blocks));
+    let blocks = part(block, 0, 8 * size(h.blocks));
     list_planned(
         text, ends, kinds, addresses, marks, places, lines, made, tables, rec, h, rows, blocks,
         from, to,

@@ -6,7 +6,7 @@ ghost use Rattle.line.specs.Lines.{line_in};
 ghost use Rattle.pseudo.specs.Listed.{line_address, line_mark, line_place};
 ghost use Rattle.pseudo.specs.Marks.{Indented};
 
-use lists::reads::from;
+use lists::parts::from;
 use record::blocks::{Place, start_at};
 use record::body::address_at;
 use record::header::Header;

@@ -19,8 +19,8 @@ use codes::tables::{isa_of, tables};
 use flow::planned::plan_record;
 use flow::rows::block_rows;
 use line::rows::row_table;
-use lists::parts::{part_u16, part_u64};
-use lists::reads::u16_in;
+use lists::parts::part;
+use lists::reads::element_or;
 use record::asked::{Asked, record};
 use record::header::Header;
 use record::layout::size as wide;
@@ -65,8 +65,8 @@ fn size_range(
 {
     let mut made = [0u64; 900];
     let planned = plan_record(isa_of(tables), rec, h, blocks, from, to, &mut made);
-    let plan = part_u64(&made, planned.next);
-    let range = u16_in(blocks, 8 * wide(from));
+    let plan = part(&made, 0, planned.next);
+    let range = element_or(blocks, 8 * wide(from), 0);
     let sizes = size_plan(tables, rec, h, rows, blocks, range, plan);
     with_looks(Answer::Listed(sizes), planned.looks)
 }
@@ -82,7 +82,7 @@ fn size_accepted(rec: &[u8], h: Header, from: u16, to: u16) -> Answered
     let rows: &[u8] = &row;
     let mut block = [0u16; 1600];
     block_rows(rec, h, &mut block);
-    let blocks = part_u16(&block, 8 * wide(h.blocks));
+    let blocks = part(&block, 0, 8 * wide(h.blocks));
     size_range(tables, rec, h, rows, blocks, from, to)
 }
 

@@ -1,4 +1,3 @@
-pub mod Stages
 pub mod Running
 pub mod Bodies
 pub mod AskedLaws

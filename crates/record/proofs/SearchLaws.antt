@@ -11,26 +11,25 @@ use lib.Dec.{eqb}
 use borrow.Author.Tests.{eq-eqb, ne_eqb}
 use Rattle.lists.specs.Choice.{pick, all_below}
 use Rattle.record.specs.Search.{number_at, find_from, last_from}
-use Rattle.record.specs.declared.search.Found.{Found}
-use Rattle.record.specs.declared.search.Found.TheVariants.{At, Nothing}
+use Rattle.std.specs.Prelude.{Option, Some, None}
 
-abbrev pub none : Found → Bool
-none Nothing = true
-none (At k) = false
+abbrev pub none : Option ℕ → Bool
+none None = true
+none (Some k) = false
 
-none_pick : (b : Bool) (k : ℕ) (f : Found) → none (pick b (At k) f) ≡ (not b && none f)
+none_pick : (b : Bool) (k : ℕ) (f : Option ℕ) → none (pick b (Some k) f) ≡ (not b && none f)
 none_pick true k f = refl
 none_pick false k f = refl
 
 module _ (numbers : List ℕ) (x : ℕ) where
   -- none of n numbers from k on
-  pub find_nothing : (k n : ℕ) → ((j : ℕ) → j < k + n → number_at numbers j ≡ x → ⊥) → find_from numbers x k n ≡ Nothing
+  pub find_nothing : (k n : ℕ) → ((j : ℕ) → j < k + n → number_at numbers j ≡ x → ⊥) → find_from numbers x k n ≡ None
   unfolding find_from
   find_nothing k zero h = refl
   find_nothing k (suc n) h = rw (ne_eqb (number_at numbers k) x (h k (omega arith))) (find_nothing (suc k) n (λ j a. h j (omega arith)))
 
   -- number m is the first of those from k on
-  pub find_first : (k n m : ℕ) → k ≤ m → m < k + n → ((j : ℕ) → j < m → number_at numbers j ≡ x → ⊥) → number_at numbers m ≡ x → find_from numbers x k n ≡ At m
+  pub find_first : (k n m : ℕ) → k ≤ m → m < k + n → ((j : ℕ) → j < m → number_at numbers j ≡ x → ⊥) → number_at numbers m ≡ x → find_from numbers x k n ≡ Some m
   unfolding find_from
   find_first k zero m a b h e = absurd (omega arith)
   find_first k (suc n) m a b h e =
@@ -40,12 +39,12 @@ module _ (numbers : List ℕ) (x : ℕ) where
       ]
 
   -- what holds of nothing and of each number before m holds of what is found before m
-  pub find_kept : (P : Found → Type 0) (k n m : ℕ) → k + n ≤ m → P Nothing → ((j : ℕ) → j < m → P (At j)) → P (find_from numbers x k n)
+  pub find_kept : (P : Option ℕ → Type 0) (k n m : ℕ) → k + n ≤ m → P None → ((j : ℕ) → j < m → P (Some j)) → P (find_from numbers x k n)
   unfolding find_from
   find_kept P k zero m h nothing some = nothing
   find_kept P k (suc n) m h nothing some = go (eqb (number_at numbers k) x) (find_kept P (suc k) n m (omega arith) nothing some)
     where
-      go : (b : Bool) → P (find_from numbers x (suc k) n) → P (pick b (At k) (find_from numbers x (suc k) n))
+      go : (b : Bool) → P (find_from numbers x (suc k) n) → P (pick b (Some k) (find_from numbers x (suc k) n))
       go true r = some k (omega arith)
       go false r = r
 
@@ -81,28 +80,28 @@ module _ (numbers : List ℕ) (x : ℕ) where
   find_all n = let e : n - 0 ≡ n = omega arith in rw e
 
   module _ (n k : ℕ) where
-    find_one : k < n → find_from numbers x k (n - k) ≡ pick (eqb (number_at numbers k) x) (At k) (find_from numbers x (k + 1) (n - (k + 1)))
+    find_one : k < n → find_from numbers x k (n - k) ≡ pick (eqb (number_at numbers k) x) (Some k) (find_from numbers x (k + 1) (n - (k + 1)))
     unfolding find_from
     find_one h = let d : n - k ≡ suc (n - (k + 1)) = omega arith in rw (d, add-one k)
 
-    pub find_here : k < n → number_at numbers k ≡ x → find_from numbers x k (n - k) ≡ At k
+    pub find_here : k < n → number_at numbers k ≡ x → find_from numbers x k (n - k) ≡ Some k
     find_here h e = find_one h ∙ rw (eq-eqb (number_at numbers k) x e)
 
     pub find_next : k < n → (number_at numbers k ≡ x → ⊥) → find_from numbers x k (n - k) ≡ find_from numbers x (k + 1) (n - (k + 1))
     find_next h e = find_one h ∙ rw (ne_eqb (number_at numbers k) x e)
 
-    pub find_none : n ≤ k → find_from numbers x k (n - k) ≡ Nothing
+    pub find_none : n ≤ k → find_from numbers x k (n - k) ≡ None
     unfolding find_from
     find_none h = let d : n - k ≡ 0 = omega arith in rw d
 
 -- the search for the last number that passes, at one number less
-pub last_turn : (p : ℕ → Bool) (i j : ℕ) → i < j → last_from p i (j - i) ≡ pick (p (j - 1)) (At (j - 1)) (last_from p i (j - 1 - i))
+pub last_turn : (p : ℕ → Bool) (i j : ℕ) → i < j → last_from p i (j - i) ≡ pick (p (j - 1)) (Some (j - 1)) (last_from p i (j - 1 - i))
 unfolding last_from
 last_turn p i j h =
     let s : j - i ≡ suc (j - 1 - i) = omega arith in
     let t : i + (j - 1 - i) ≡ j - 1 = omega arith in
-    ap (last_from p i) s ∙ ap (λ (x : ℕ). pick (p x) (At x) (last_from p i (j - 1 - i))) t
+    ap (last_from p i) s ∙ ap (λ (x : ℕ). pick (p x) (Some x) (last_from p i (j - 1 - i))) t
 
-pub last_over : (p : ℕ → Bool) (i j : ℕ) → j ≤ i → last_from p i (j - i) ≡ Nothing
+pub last_over : (p : ℕ → Bool) (i j : ℕ) → j ≤ i → last_from p i (j - i) ≡ None
 unfolding last_from
 last_over p i j h = let s : j - i ≡ 0 = omega arith in rw s

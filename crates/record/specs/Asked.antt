@@ -1,6 +1,9 @@
 -- The questions 1 to 11 and 15 in their order, and the first that gets a no.
-use Rattle.std.specs.Prelude.{ℕ, zero, suc, List, Bool, ◌&&◌, ◌≡◌, leb}
+use Rattle.std.specs.Prelude.{ℕ, zero, suc, List, Bool, ◌&&◌, leb}
+use Rattle.std.specs.declared.result.Result.{Result}
 use Rattle.lists.specs.Choice.{ask}
+use Rattle.lists.specs.Question.{Answers}
+use Rattle.lists.specs.declared.question.Question.{Question}
 use Rattle.x86.specs.Registers.{register_exists}
 use Rattle.record.specs.Header.{header_of, header_fits, fields_ok, limits_ok}
 use Rattle.record.specs.Layout.{length_ok, starts_of, marks_of, targets_of, edge_kinds_of, bodies_of, entries_of, pairs_of, spans_of, texts_of}
@@ -9,8 +12,6 @@ use Rattle.record.specs.Body.{bodies_ok}
 use Rattle.record.specs.Branches.{branches_ok}
 use Rattle.record.specs.Atlas.{atlas_ok, spans_ok}
 use Rattle.record.specs.declared.header.Header.{Header}
-use Rattle.record.specs.declared.asked.Asked.{Asked}
-use Rattle.record.specs.declared.asked.Asked.TheVariants.{Yes, No}
 
 -- a stage's number, or where it has none what the later stages say
 abbrev pub or_else : ℕ → ℕ → ℕ
@@ -73,17 +74,6 @@ first_no s from to =
     (or_else (contents_no (header_of s) s)
     (range_no (header_of s) from to)))
 
--- the paper's number for each case of the answer: 0 where every question so far got a yes
-abbrev pub number_of : Asked → ℕ
-number_of (Yes h) = 0
-number_of (No n) = n
-
--- the answer with that number, and with the record's header where it is 0
-abbrev pub answer_of : ℕ → Header → Asked
-answer_of zero h = Yes h
-answer_of (suc n) h = No (suc n)
-
--- What `record` answers: the number of the first question that gets a no, or 0 and the record's header.
-pub record Answered (s : List ℕ) (from to : ℕ) (r : Asked) : Type 0 where
-  pub number : number_of r ≡ first_no s from to
-  pub answer : r ≡ answer_of (first_no s from to) (header_of s)
+-- What `record` answers: the first question that gets a no, or the record's header.
+abbrev pub Answered : List ℕ → ℕ → ℕ → Result Header Question → Type 0
+Answered s from to r = Answers (first_no s from to) (header_of s) r

@@ -3,8 +3,7 @@
 use Rattle.std.specs.Prelude.{ℕ, zero, suc, ◌+◌, ◌*◌, ◌<◌, List, Bool, eqb}
 use Rattle.lists.specs.Choice.{pick}
 use Rattle.lists.specs.Bytes.{u64_at}
-use Rattle.record.specs.declared.search.Found.{Found}
-use Rattle.record.specs.declared.search.Found.TheVariants.{At, Nothing}
+use Rattle.std.specs.Prelude.{Option, Some, None}
 
 -- "B u64 block starts", "A u64 addresses"
 abbrev pub number_at : List ℕ → ℕ → ℕ
@@ -15,11 +14,11 @@ abbrev pub Rises : (ℕ → ℕ) → ℕ → Type 0
 Rises f n = (k : ℕ) → suc k < n → f k < f (suc k)
 
 -- the first of the n numbers from k on that is x
-unfoldable pub find_from : List ℕ → ℕ → ℕ → ℕ → Found
-find_from numbers x k zero = Nothing
-find_from numbers x k (suc n) = pick (eqb (number_at numbers k) x) (At k) (find_from numbers x (suc k) n)
+unfoldable pub find_from : List ℕ → ℕ → ℕ → ℕ → Option ℕ
+find_from numbers x k zero = None
+find_from numbers x k (suc n) = pick (eqb (number_at numbers k) x) (Some k) (find_from numbers x (suc k) n)
 
 -- the last of the n numbers from i on that passes the test
-unfoldable pub last_from : (ℕ → Bool) → ℕ → ℕ → Found
-last_from p i zero = Nothing
-last_from p i (suc n) = pick (p (i + n)) (At (i + n)) (last_from p i n)
+unfoldable pub last_from : (ℕ → Bool) → ℕ → ℕ → Option ℕ
+last_from p i zero = None
+last_from p i (suc n) = pick (p (i + n)) (Some (i + n)) (last_from p i n)

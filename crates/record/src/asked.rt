@@ -1,6 +1,7 @@
-// The questions 1 to 11 and 15, by stages: each stage answers the number of its first question that gets a no, or 0.
+// The questions 1 to 11 and 15, by stages: each stage answers the first of its questions that gets a no.
 ghost use Rattle.std.specs.Prelude.{◌≡◌};
-ghost use Rattle.lists.specs.Choice.{ask};
+ghost use Rattle.lists.specs.Question.{Answers};
+ghost use Rattle.record.specs.Header.{header_of};
 ghost use Rattle.record.specs.Asked.{sizes_no, marks_asked, starts_asked, edge_kinds_asked, bodies_asked, branches_asked, atlas_asked, spans_asked, blocks_no, contents_no, range_no, Answered};
 
 use crate::atlas::{atlas_ok, spans_ok};
@@ -12,34 +13,29 @@ use crate::layout::{
     bodies_at, edge_kinds_at, entries_at, marks_at, pairs_at, size_of, spans_at, targets_at,
     texts_at,
 };
-use lists::reads::from;
+use lists::parts::from;
+use lists::question::Question;
 use x86::registers::register_exists;
 
-// The answer: the header of a record that may be listed, or the number of the question that got a no.
-#[derive(Clone, Copy)]
-pub enum Asked {
-    Yes(Header),
-    No(u8),
-}
-
-// Questions 1 to 4.
-pub fn sizes_no(bytes: &[u8]) -> u8
-    ensures { result ≡ sizes_no bytes.now }
+// Questions 1 to 4: the header of a record that has the length it asks for.
+#[tactic(auto, unfolding(crate::specs::Asked::sizes_no))]
+pub fn sized_header(bytes: &[u8]) -> Result<Header, Question>
+    ensures { Answers (sizes_no bytes.now) (header_of bytes.now) result }
 {
     if bytes.len() < 24 {
-        return 1;
+        return Err(Question::Header);
     }
     let h = read_header(bytes);
-    if fields_ok(h) {
-        if limits_ok(h) {
-            if bytes.len() == size_of(h) {
-                return 0;
-            }
-            return 4;
-        }
-        return 3;
+    if !fields_ok(h) {
+        return Err(Question::Fields);
     }
-    2
+    if !limits_ok(h) {
+        return Err(Question::Limits);
+    }
+    if bytes.len() != size_of(h) {
+        return Err(Question::Length);
+    }
+    Ok(h)
 }
 
 // Question 5.
@@ -97,73 +93,61 @@ fn spans_asked(bytes: &[u8], h: Header) -> bool
 }
 
 // Questions 5 to 7.
-pub fn blocks_no(bytes: &[u8], h: Header) -> u8
-    ensures { result ≡ blocks_no h bytes.now }
+#[tactic(auto, unfolding(crate::specs::Asked::blocks_no))]
+pub fn ask_blocks(bytes: &[u8], h: Header) -> Result<(), Question>
+    ensures { Answers (blocks_no h bytes.now) tt result }
 {
-    if marks_asked(bytes, h) {
-        if starts_asked(bytes, h) {
-            if edge_kinds_asked(bytes, h) {
-                return 0;
-            }
-            return 7;
-        }
-        return 6;
+    if !marks_asked(bytes, h) {
+        return Err(Question::Marks);
     }
-    5
-}
-
-// Question n's number where it got a no, else what the later questions say.
-fn ask(n: u8, yes: bool, later: u8) -> u8
-    ensures { result ≡ ask n yes later }
-{
-    if yes { later } else { n }
+    if !starts_asked(bytes, h) {
+        return Err(Question::Starts);
+    }
+    if !edge_kinds_asked(bytes, h) {
+        return Err(Question::EdgeKinds);
+    }
+    Ok(())
 }
 
 // Questions 8, 15, 9 and 10.
-pub fn contents_no(bytes: &[u8], h: Header) -> u8
-    ensures { result ≡ contents_no h bytes.now }
+#[tactic(auto, unfolding(crate::specs::Asked::contents_no))]
+pub fn ask_contents(bytes: &[u8], h: Header) -> Result<(), Question>
+    ensures { Answers (contents_no h bytes.now) tt result }
 {
-    let bodies = bodies_asked(bytes, h);
-    let branches = branches_asked(bytes, h);
-    let atlas = atlas_asked(bytes, h);
-    let spans = spans_asked(bytes, h);
-    ask(
-        8,
-        bodies,
-        ask(15, branches, ask(9, atlas, ask(10, spans, 0))),
-    )
+    if !bodies_asked(bytes, h) {
+        return Err(Question::Bodies);
+    }
+    if !branches_asked(bytes, h) {
+        return Err(Question::Branches);
+    }
+    if !atlas_asked(bytes, h) {
+        return Err(Question::Atlas);
+    }
+    if !spans_asked(bytes, h) {
+        return Err(Question::Spans);
+    }
+    Ok(())
 }
 
 // Question 11.
-pub fn range_no(h: Header, from: usize, to: usize) -> u8
-    ensures { result ≡ range_no h from to }
+#[tactic(auto, unfolding(crate::specs::Asked::range_no))]
+pub fn ask_range(h: Header, from: usize, to: usize) -> Result<(), Question>
+    ensures { Answers (range_no h from to) tt result }
 {
     if (from <= to) & (to <= h.blocks as usize) {
-        return 0;
+        return Ok(());
     }
-    11
+    Err(Question::Range)
 }
 
-// The questions 1 to 11 and 15 of a record and a range of its blocks. Nothing is demanded of the caller.
-pub fn record(bytes: &[u8], from: usize, to: usize) -> Asked
+// The questions 1 to 11 and 15 of a record and a range of its blocks: its header, where none gets a no. Nothing is demanded of the caller.
+#[tactic(auto, unfolding(crate::specs::Asked::first_no))]
+pub fn record(bytes: &[u8], from: usize, to: usize) -> Result<Header, Question>
     ensures { Answered bytes.now from to result }
 {
-    let sizes = sizes_no(bytes);
-    if sizes != 0 {
-        return Asked::No(sizes);
-    }
-    let h = read_header(bytes);
-    let blocks = blocks_no(bytes, h);
-    if blocks != 0 {
-        return Asked::No(blocks);
-    }
-    let contents = contents_no(bytes, h);
-    if contents != 0 {
-        return Asked::No(contents);
-    }
-    let range = range_no(h, from, to);
-    if range != 0 {
-        return Asked::No(range);
-    }
-    Asked::Yes(h)
+    let h = sized_header(bytes)?;
+    ask_blocks(bytes, h)?;
+    ask_contents(bytes, h)?;
+    ask_range(h, from, to)?;
+    Ok(h)
 }

@@ -4,7 +4,8 @@ ghost use Rattle.lists.specs.Bytes.{u8_at};
 ghost use Rattle.lists.specs.Choice.{all_below};
 ghost use Rattle.record.specs.Atlas.{entry_address, entry_kind, entry_length, text_start, entry_kind_ok, text_byte_ok, text_ok, entries_ok, texts_ok, atlas_ok, span_first, span_last, spans_ok};
 
-use lists::reads::{from, u8_at, u64_at};
+use lists::parts::from;
+use lists::reads::{u8_at, u64_at};
 
 pub fn entry_address(entries: &[u8], k: u16) -> u64
     ensures { result ≡ entry_address entries.now k }

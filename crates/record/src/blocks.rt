@@ -3,45 +3,14 @@
 ghost use Rattle.std.specs.Prelude.{◌≡◌, ◌<◌, ltb, eqb};
 ghost use Rattle.record.specs.Blocks.{start_at, instructions_in, edges_in, label_mark, target_at, edge_kind_at, marks_ok, start_is_new, starts_differ, starts_rise, edge_kinds_ok};
 
-use crate::search::{Found, first_of};
+use crate::search::first_of;
 use lists::reads::{u8_at, u16_at, u64_at};
 
-#[derive(Clone, Copy)]
+#[derive(Clone, Copy, PartialEq, Eq, PartialOrd, Ord)]
 pub struct Address(pub u64);
 
-#[derive(Clone, Copy)]
+#[derive(Clone, Copy, PartialEq, Eq, PartialOrd, Ord)]
 pub struct Place(pub u16);
-
-// A place that a search found.
-#[derive(Clone, Copy)]
-pub enum FoundPlace {
-    AtPlace(Place),
-    NoPlace,
-}
-
-pub fn is_below(a: Address, b: Address) -> bool
-    ensures { result ≡ ltb a.0 b.0 }
-{
-    a.0 < b.0
-}
-
-pub fn same_address(a: Address, b: Address) -> bool
-    ensures { result ≡ eqb a.0 b.0 }
-{
-    a.0 == b.0
-}
-
-pub fn is_before(a: Place, b: Place) -> bool
-    ensures { result ≡ ltb a.0 b.0 }
-{
-    a.0 < b.0
-}
-
-pub fn same_place(a: Place, b: Place) -> bool
-    ensures { result ≡ eqb a.0 b.0 }
-{
-    a.0 == b.0
-}
 
 pub fn start_at(starts: &[u8], k: Place) -> Address
     ensures { result.0 ≡ start_at starts.now k.0 }
@@ -101,8 +70,8 @@ fn start_is_new(starts: &[u8], k: u16) -> bool
     let x = start_at(starts, Place(k));
     let found = first_of(starts, k, x.0);
     match found {
-        Found::At(_) => false,
-        Found::Nothing => true,
+        Some(_) => false,
+        None => true,
     }
 }
 
@@ -114,7 +83,7 @@ pub fn starts_rise(starts: &[u8], blocks: u16) -> bool
     let mut ok = true;
     for k in 0..blocks {
         let x = start_at(starts, Place(k));
-        ok = ok & ((k == 0) | is_below(before, x));
+        ok = ok & ((k == 0) | (before < x));
         before = x;
     }
     ok

@@ -3,7 +3,8 @@ ghost use Rattle.std.specs.Prelude.{◌≡◌, ◌-◌, ◌*◌, ◌<◌, ◌≤
 ghost use Rattle.x86.specs.Table.{missing_table};
 ghost use Rattle.record.specs.Body.{address_at, body_at, mnemonic_of, condition_of, operand_count, skip_mark, segment_of, base_of, index_of, scale_of, memory_size, memory_address, operand_kind, register_byte, operand_register, operand_number, is_conditional_branch, name_byte, condition_ok, scale_ok, operand_ok, fixed_ok, is_name, is_zeros, operands_ok, body_ok, bodies_ok};
 
-use lists::reads::{from, plain_u8, plain_u64, u8_at, u16_at, u64_at};
+use lists::parts::from;
+use lists::reads::{plain_u8, plain_u64, u8_at, u16_at, u64_at};
 use x86::registers::{missing_table, register_known};
 
 pub fn address_at(addresses: &[u8], i: u16) -> u64

@@ -6,7 +6,8 @@ ghost use Rattle.record.specs.Branches.{is_true, true_count, true_lead, branch_a
 
 use crate::blocks::{Place, edges_in, instructions_in};
 use crate::body::{is_conditional_branch, op_number};
-use lists::reads::{from, u8_at, u64_at};
+use lists::parts::from;
+use lists::reads::{u8_at, u64_at};
 
 // 1 for a True edge, 0 for another.
 fn true_at(kinds: &[u8], e: usize) -> u16

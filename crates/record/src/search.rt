@@ -4,13 +4,6 @@ ghost use Rattle.record.specs.Search.{number_at, Rises, find_from};
 
 use lists::reads::{plain_u64, u64_at};
 
-// A number that a search found.
-#[derive(Clone, Copy)]
-pub enum Found {
-    At(u16),
-    Nothing,
-}
-
 fn number_at(numbers: &[u8], k: u16) -> u64
     ensures { result ≡ number_at numbers.now k }
 {
@@ -18,21 +11,21 @@ fn number_at(numbers: &[u8], k: u16) -> u64
 }
 
 // The first of the numbers that is x, where all of them are there: no test of the length stands between the reads.
-fn plain_first(numbers: &[u8], count: u16, x: u64) -> Found
+fn plain_first(numbers: &[u8], count: u16, x: u64) -> Option<u16>
     requires { 8 * count ≤ length numbers.now }
     ensures { result ≡ find_from numbers.now x 0 count }
 {
     let n = count as usize;
     for k in 0..n {
         if plain_u64(numbers, 8 * k) == x {
-            return Found::At(k as u16);
+            return Some(k as u16);
         }
     }
-    Found::Nothing
+    None
 }
 
 // The first of the numbers that is x, one after the other.
-pub fn first_of(numbers: &[u8], count: u16, x: u64) -> Found
+pub fn first_of(numbers: &[u8], count: u16, x: u64) -> Option<u16>
     ensures { result ≡ find_from numbers.now x 0 count }
 {
     if 8 * count as usize <= numbers.len() {
@@ -40,14 +33,14 @@ pub fn first_of(numbers: &[u8], count: u16, x: u64) -> Found
     }
     for k in 0..count {
         if number_at(numbers, k) == x {
-            return Found::At(k);
+            return Some(k);
         }
     }
-    Found::Nothing
+    None
 }
 
 // By halving, where all numbers are there: those below `low` are smaller than x, those from `high` on greater.
-fn plain_search(numbers: &[u8], count: u16, x: u64) -> Found
+fn plain_search(numbers: &[u8], count: u16, x: u64) -> Option<u16>
     requires rises { Rises (number_at numbers.now) count }
     requires there { 8 * count ≤ length numbers.now }
     ensures { result ≡ find_from numbers.now x 0 count }
@@ -58,7 +51,7 @@ fn plain_search(numbers: &[u8], count: u16, x: u64) -> Found
         let mid = low + (high - low) / 2;
         let a = plain_u64(numbers, 8 * mid);
         if a == x {
-            return Found::At(mid as u16);
+            return Some(mid as u16);
         }
         if a < x {
             low = mid + 1;
@@ -66,11 +59,11 @@ fn plain_search(numbers: &[u8], count: u16, x: u64) -> Found
             high = mid;
         }
     }
-    Found::Nothing
+    None
 }
 
 // The one of the first `count` numbers that is x.
-pub fn search(numbers: &[u8], count: u16, x: u64) -> Found
+pub fn search(numbers: &[u8], count: u16, x: u64) -> Option<u16>
     requires { Rises (number_at numbers.now) count }
     ensures { result ≡ find_from numbers.now x 0 count }
 {

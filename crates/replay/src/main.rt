@@ -4,8 +4,8 @@
 ghost use Rattle.std.specs.Prelude.{◌≡◌, ◌<◌, ◌≤◌, length};
 ghost use Rattle.replay.specs.Sum.{turn, sum_from, wide_from};
 
-use lists::parts::part;
-use lists::reads::{from as part_from, u32_at, u64_at, within};
+use lists::parts::{from as part_from, part};
+use lists::reads::{u32_at, u64_at};
 use pseudo::call::list;
 use rows::answer::Answer;
 use std::io::Read;
@@ -143,13 +143,13 @@ fn replay_lists(
     places: &mut [u16],
     lines: &mut [u32],
 ) -> bool {
-    let x = within(field(case, 4), text.len());
-    let e = within(field(case, 8), ends.len());
-    let k = within(field(case, 12), kinds.len());
-    let a = within(field(case, 16), addresses.len());
-    let m = within(field(case, 20), marks.len());
-    let p = within(field(case, 24), places.len());
-    let l = within(field(case, 28), lines.len());
+    let x = field(case, 4).min(text.len());
+    let e = field(case, 8).min(ends.len());
+    let k = field(case, 12).min(kinds.len());
+    let a = field(case, 16).min(addresses.len());
+    let m = field(case, 20).min(marks.len());
+    let p = field(case, 24).min(places.len());
+    let l = field(case, 28).min(lines.len());
     replay(
         case,
         &mut text[..x],
@@ -204,7 +204,7 @@ fn replay_all(rt: &impl Print, corpus: &[u8]) {
     while n < count {
         let case = part_from(corpus, at);
         differ += differs(case);
-        at = within(at, 1000000) + 120 + field(case, 0);
+        at = at.min(1000000) + 120 + field(case, 0);
         n += 1;
     }
     show(rt, count, b" replayed, ");

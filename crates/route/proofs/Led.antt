@@ -11,7 +11,7 @@ use Rattle.lists.specs.Choice.{pick, sum_below}
 use Rattle.lists.specs.Every.{both_yes}
 use Rattle.lists.specs.Below.{all_at}
 use Rattle.record.specs.declared.header.Header.{Header}
-use Rattle.record.specs.declared.search.Found.{Found}
+use Rattle.std.specs.Prelude.{Option}
 use Rattle.record.specs.Header.{header_of}
 use Rattle.record.specs.Layout.{starts_of, marks_of, targets_of, edge_kinds_of, bodies_of}
 use Rattle.record.specs.Blocks.{start_at, edges_in, first_edge, target_at, edge_kind_at, differ, start_is_new, starts_differ}
@@ -86,7 +86,7 @@ module _ (h : Header) (s : List ℕ) where
   pub place_within : (va : ℕ) → is_block (place_of h s va) ≡ true → place_of h s va < h.blocks
   unfolding place_of
   place_within va =
-      find_kept (starts_of h s) va (λ (f : Found). is_block (place_found f) ≡ true → place_found f < h.blocks) 0 h.blocks h.blocks (omega arith)
+      find_kept (starts_of h s) va (λ (f : Option ℕ). is_block (place_found f) ≡ true → place_found f < h.blocks) 0 h.blocks h.blocks (omega arith)
       (λ e. absurd (false≢true e)) (λ j l e. l)
 
 module _ (s : List ℕ) (asked : first_no s 0 (header_of s).blocks ≡ 0) where

@@ -19,8 +19,7 @@ use Rattle.tokens.specs.Token.{symbol}
 use Rattle.tokens.specs.Words.{prefixed}
 use Rattle.tokens.proofs.ListingLaws.{cases}
 use Rattle.record.specs.declared.header.Header.{Header}
-use Rattle.record.specs.declared.search.Found.{Found}
-use Rattle.record.specs.declared.search.Found.TheVariants.{At, Nothing}
+use Rattle.std.specs.Prelude.{Option, Some, None}
 use Rattle.record.specs.Header.{header_of}
 use Rattle.record.specs.Layout.{starts_of, bodies_of}
 use Rattle.record.specs.Blocks.{start_at, differ, start_is_new, starts_differ}
@@ -100,9 +99,9 @@ module _ (h : Header) (s : List ℕ) where
   unfolding name_or
   unnamed va e = go (entry_at h s va) e
     where
-      go : (f : Found) → is_nothing f ≡ true → (name_or_at h s f va (symbol "loc_")).bytes ≡ label_name va
-      go (At j) e = absurd (false≢true e)
-      go Nothing e = refl
+      go : (f : Option ℕ) → is_nothing f ≡ true → (name_or_at h s f va (symbol "loc_")).bytes ≡ label_name va
+      go (Some j) e = absurd (false≢true e)
+      go None e = refl
 
   place_in : (va : ℕ) → is_block (place_of h s va) ≡ true → place_of h s va < h.blocks
   unfolding place_of

@@ -17,8 +17,7 @@ use Rattle.x86.specs.Width.{is_stack_pointer}
 use Rattle.x86.specs.Mnemonics.{cmp, test, is_bt_or_imul}
 use Rattle.x86.specs.Conditions.{relation_after_cmp, relation_after_test, relation_after_other, prints_unsigned}
 use Rattle.record.specs.declared.header.Header.{Header}
-use Rattle.record.specs.declared.search.Found.{Found}
-use Rattle.record.specs.declared.search.Found.TheVariants.{At, Nothing}
+use Rattle.std.specs.Prelude.{Option, Some, None}
 use Rattle.record.specs.Layout.{pairs_of, bodies_of}
 use Rattle.record.specs.Atlas.{entry_kind}
 use Rattle.record.specs.Body.{operand_kind, operand_register, operand_number, segment_of, scale_of, index_of, memory_size, memory_address, mnemonic_of}
@@ -77,9 +76,9 @@ module _ (h : Header) (s : List ℕ) where
   unfolding name_or entry_token prefixed
   name_named va w e = go (entry_at h s va)
     where
-      go : (f : Found) → Named (name_or_at h s f va w)
-      go (At k) = either Named (eqb (entry_kind (pairs_of h s) k) 3) _ _ (inl refl) (inr refl)
-      go Nothing = inl e
+      go : (f : Option ℕ) → Named (name_or_at h s f va w)
+      go (Some k) = either Named (eqb (entry_kind (pairs_of h s) k) 3) _ _ (inl refl) (inr refl)
+      go None = inl e
 
   name_calm : (va : ℕ) (w : Token) → w.kind ≡ 4 → Calm (name_or h s va w)
   name_calm va w e = told (⊎_elim (λ k. rw k) (λ k. rw k) (name_named va w e))
@@ -184,6 +183,6 @@ module _ (h : Header) (s : List ℕ) where
   unfolding condition_tokens
   condition_mild first i cc = go (flag_writer (bodies_of h s) first (i - first))
     where
-      go : (w : Found) → Mild (condition_after h s w cc)
-      go (At p) = writer_mild (body_of h s p) cc
-      go Nothing = flags_mild cc
+      go : (w : Option ℕ) → Mild (condition_after h s w cc)
+      go (Some p) = writer_mild (body_of h s p) cc
+      go None = flags_mild cc

@@ -4,8 +4,7 @@ use Rattle.std.specs.Prelude.{ℕ, ◌+◌, ◌-◌, ◌≤◌, List, [], ◌∷
 use Rattle.lists.specs.Choice.{pick, all_below, sum_below}
 use Rattle.lists.specs.Every.{every}
 use Rattle.record.specs.declared.header.Header.{Header}
-use Rattle.record.specs.declared.search.Found.{Found}
-use Rattle.record.specs.declared.search.Found.TheVariants.{At, Nothing}
+use Rattle.std.specs.Prelude.{Option, Some, None}
 use Rattle.record.specs.Layout.{starts_of, marks_of, targets_of, edge_kinds_of, bodies_of}
 use Rattle.record.specs.Blocks.{start_at, instructions_in, edges_in, first_instruction, first_edge, target_at, edge_kind_at}
 use Rattle.record.specs.Body.{body_at, mnemonic_of, is_conditional_branch, sets_by_condition, skip_mark, operand_kind, operand_number}
@@ -19,9 +18,9 @@ use Rattle.flow.specs.Planned.{record_plan}
 use Rattle.route.specs.Processor.{is_return, is_jump, uncond, onward}
 
 -- a search found nothing
-abbrev pub is_nothing : Found → Bool
-is_nothing (At k) = false
-is_nothing Nothing = true
+abbrev pub is_nothing : Option ℕ → Bool
+is_nothing (Some k) = false
+is_nothing None = true
 
 -- "jumps, conditional branches and returns"
 abbrev pub turns : List ℕ → Bool

@@ -6,7 +6,7 @@ ghost use Rattle.lists.specs.Put.{put};
 ghost use Rattle.routines.specs.Written.{inside, start, edges, body_of, targets_of, kinds_of, entry_of};
 
 use crate::ending::Ending;
-use lists::stores::{put_bytes, put_u16, put_u64, store};
+use lists::stores::{put_slice, put_u16, put_u64, store};
 
 // Block k's start.
 fn start(k: usize) -> u64
@@ -117,10 +117,10 @@ fn put_body(out: &mut [u8], at: usize, e: Ending) -> usize
         Ending::Jne(t) => {
             body[1] = 6;
             put_branch(&mut body, t);
-            put_bytes(&mut body[68..], b"jne");
+            put_slice(&mut body[68..], b"jne");
         }
     }
-    put_bytes(&mut out[at..], &body);
+    put_slice(&mut out[at..], &body);
     at + 92
 }
 

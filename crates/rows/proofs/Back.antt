@@ -20,7 +20,9 @@ use Rattle.tokens.proofs.Lines.{first, behind, tokens_back, line_first}
 use Rattle.tokens.proofs.ListingLaws.{ends_length, kinds_length}
 use Rattle.tokens.proofs.Fit.{fit_token, Fit, none, behind as fit-behind}
 use Rattle.rows.specs.Lists.{Lists, lists_of, values_of, Leaves}
-use Rattle.rows.specs.declared.answer.Answer.{Answer}
+use Rattle.std.specs.Prelude.{Ok}
+use Rattle.std.specs.declared.result.Result.{Result}
+use Rattle.lists.specs.declared.question.Question.{Question}
 use Rattle.rows.specs.Rows.{Row, is_addressed, indent_of, row_at, rows_in, all_tokens, token_counts, mark_of, row_lists, token_held, row_held, sizes_within, holds_rows}
 
 -- as many as there are rows
@@ -216,7 +218,7 @@ module _ (rs : List Row) (l : Lists) (b : Begins rs l) (g : every fit_row rs ≡
       )
 
 -- what a call leaves that answers 0: the lists hold the rows whose lists they got
-begins : (rs : List Row) (b a : Lists) (r : Answer) → Leaves 0 (row_lists rs) b a r → Begins rs a
+begins : (rs : List Row) (b a : Lists) (r : Result Sizes Question) → Leaves 0 (row_lists rs) b a r → Begins rs a
 begins rs b a r v =
     let n = row_lists rs in
     record {
@@ -231,7 +233,7 @@ begins rs b a r v =
       lines = v.lines;
     }
 
-pub leaves_rows : (rs : List Row) (b a : Lists) (r : Answer) → Leaves 0 (row_lists rs) b a r → every fit_row rs ≡ true
+pub leaves_rows : (rs : List Row) (b a : Lists) (r : Result Sizes Question) → Leaves 0 (row_lists rs) b a r → every fit_row rs ≡ true
     → (holds_rows a (values_of r).text (values_of r).tokens (values_of r).lines ≡ true) × (rows_in a (values_of r).lines ≡ rs)
 unfolding row_lists
 leaves_rows rs b a r v g =

@@ -1,36 +1,19 @@
 -- A call that answered a listing: the first entries of each list, as many as its size says, are its part of the new ones; and lists that
 -- suffice. The answer tells the number 0 from all others, and with 0 each list begins with what is new.
-use mathlib.Core.Path.{◌≡◌, refl, sym, ap, ◌∙◌}
-use mathlib.Core.Bool.{Bool, true, false, true≢false, false≢true}
+use mathlib.Core.Path.{◌≡◌, sym, ap, ◌∙◌}
 use mathlib.Core.List.{List}
-use Prim.Native.Nat.{ℕ, zero, suc, ◌≤◌}
+use Prim.Native.Nat.{ℕ, ◌≤◌}
 use native.Mathlib.Omega.{arith}
 use lib.ListN.{length, take, drop}
 use lib.Seq.{take-append_seam}
 use borrow.Author.Tests.{le-leb}
-use Rattle.rows.specs.Lists.{Lists, cut, room_no, answer_for, sizes_of, left, Leaves}
+use Rattle.rows.specs.Lists.{Lists, cut, room_no, sizes_of, left, Leaves}
 use Rattle.rows.specs.declared.answer.Sizes.{Sizes}
 use Rattle.rows.specs.declared.answer.Rooms.{Rooms}
-use Rattle.rows.specs.declared.answer.Answer.{Answer}
-use Rattle.rows.specs.declared.answer.Answer.TheVariants.{Listed, No}
-
--- ---- the number of an answer
-abbrev is_listed : Answer → Bool
-is_listed (Listed z) = true
-is_listed (No n) = false
-
-abbrev sizes_in : Sizes → Answer → Sizes
-sizes_in d (Listed z) = z
-sizes_in d (No n) = d
-
-listed_zero : (z d : Sizes) (n : ℕ) → Listed z ≡ answer_for d n → (n ≡ 0) × (z ≡ d)
-listed_zero z d zero e = (refl, ap (sizes_in d) e)
-listed_zero z d (suc n) e = absurd (true≢false (ap is_listed e))
-
--- a refusal has not the number 0
-pub refused_some : (k : ℕ) (d : Sizes) (n : ℕ) → No k ≡ answer_for d n → n ≡ 0 → ⊥
-refused_some k d zero e z = false≢true (ap is_listed e)
-refused_some k d (suc n) e z = omega arith
+use Rattle.std.specs.Prelude.{Ok}
+use Rattle.std.specs.declared.result.Result.{Result}
+use Rattle.lists.proofs.Answered.{value_is}
+use Rattle.lists.specs.declared.question.Question.{Question}
 
 -- questions 12 to 14 get a yes
 pub suffice : (z : Sizes) (r : Rooms) → z.text ≤ r.text → z.tokens ≤ r.ends → z.tokens ≤ r.kinds → z.lines ≤ r.addresses → z.lines ≤ r.marks → z.lines ≤ r.places → z.lines ≤ r.lines
@@ -43,9 +26,9 @@ suffice z r x e k a m p l =
 taken : (n k : ℕ) (new old l : List ℕ) → n ≡ 0 → l ≡ left n new old → k ≡ length new → take k l ≡ new
 taken n k new old l z p q = rw (p, z, q) (take-append_seam new (drop (length new) old))
 
-module _ {n : ℕ} {new b a : Lists} {g : Answer} (v : Leaves n new b a g) (z : Sizes) (h : g ≡ Listed z) where
+module _ {n : ℕ} {new b a : Lists} {g : Result Sizes Question} (v : Leaves n new b a g) (z : Sizes) (h : g ≡ Ok z) where
   pub zeroed : (n ≡ 0) × (z ≡ sizes_of new)
-  zeroed = listed_zero z (sizes_of new) n (sym h ∙ v.answer)
+  zeroed = value_is n (sizes_of new) g z v.answer h
 
   pub text_size : z.text ≡ length new.text
   text_size = ap (λ (z : Sizes). z.text) zeroed.1

@@ -5,8 +5,10 @@ use Rattle.lists.specs.Choice.{ask}
 use Rattle.lists.specs.Put.{put}
 use Rattle.rows.specs.declared.answer.Sizes.{Sizes}
 use Rattle.rows.specs.declared.answer.Rooms.{Rooms}
-use Rattle.rows.specs.declared.answer.Answer.{Answer}
-use Rattle.rows.specs.declared.answer.Answer.TheVariants.{Listed, No}
+use Rattle.std.specs.Prelude.{Ok, Err}
+use Rattle.std.specs.declared.result.Result.{Result}
+use Rattle.lists.specs.declared.question.Question.{Question}
+use Rattle.lists.specs.Question.{Answers}
 
 -- "Lists filled: text; token ends (u32) beside kinds ..; line addresses .. beside u16 marks .. and u32 token ends."
 -- #107, of the places: "It is a further u16 list beside the line marks."
@@ -22,15 +24,10 @@ pub record Lists : Type 0 where
 abbrev pub lists_of : (text ends kinds addresses marks places lines : List ℕ) → Lists
 lists_of x e k a m p l = record { text = x; ends = e; kinds = k; addresses = a; marks = m; places = p; lines = l }
 
--- "A listing's answer is 0 and the sizes: text bytes, tokens, lines."
-abbrev pub number_of : Answer → ℕ
-number_of (Listed z) = 0
-number_of (No n) = n
-
 -- "A number comes with all sizes zero"
-abbrev pub values_of : Answer → Sizes
-values_of (Listed z) = z
-values_of (No n) = record { text = 0; tokens = 0; lines = 0 }
+abbrev pub values_of : Result Sizes Question → Sizes
+values_of (Ok z) = z
+values_of (Err q) = record { text = 0; tokens = 0; lines = 0 }
 
 -- "12. Text list long enough? 13. Token lists? 14. Line lists?"; #107: "14 covers the added list."
 unfoldable pub room_no : Sizes → Rooms → ℕ
@@ -39,11 +36,6 @@ room_no z r =
     (ask 13 (leb z.tokens r.ends && leb z.tokens r.kinds)
     (ask 14 (leb z.lines r.addresses && leb z.lines r.marks && leb z.lines r.places && leb z.lines r.lines)
     0))
-
--- the answer with this number, and with the sizes where it is 0
-abbrev pub answer_for : Sizes → ℕ → Answer
-answer_for z zero = Listed z
-answer_for z (suc n) = No (suc n)
 
 -- a list whose first entries are new: "Entries past the sizes are unchanged."
 abbrev pub over : List ℕ → List ℕ → List ℕ
@@ -88,8 +80,9 @@ pub record Stands (new b a : Lists) : Type 0 where
 
 -- What a call that answers number n leaves, of the lists before (b) and after (a): with a number every list is unchanged, else each holds
 -- its part of the new ones, and what lay past it.
-pub record Leaves (n : ℕ) (new b a : Lists) (r : Answer) : Type 0 where
-  pub answer : r ≡ answer_for (sizes_of new) n
+pub record Leaves (n : ℕ) (new b a : Lists) (r : Result Sizes Question) : Type 0 where
+  -- "A listing's answer is 0 and the sizes: text bytes, tokens, lines."
+  pub answer : Answers n (sizes_of new) r
   pub text : a.text ≡ left n new.text b.text
   pub ends : a.ends ≡ left n new.ends b.ends
   pub kinds : a.kinds ≡ left n new.kinds b.kinds

@@ -1,6 +1,9 @@
-// How much a listing has, how much room was lent, questions 12 to 14, and the answer.
+// How much a listing has, how much room was lent, and questions 12 to 14.
 ghost use Rattle.std.specs.Prelude.{◌≡◌};
+ghost use Rattle.lists.specs.Question.{Answers};
 ghost use Rattle.rows.specs.Lists.{room_no};
+
+use lists::question::Question;
 
 #[derive(Clone, Copy)]
 pub struct Sizes {
@@ -21,29 +24,20 @@ pub struct Rooms {
     pub lines: usize,
 }
 
-// The first of the questions 12 to 14 that gets a no, or 0.
-pub fn room_no(sizes: Sizes, rooms: Rooms) -> u8
-    ensures { result ≡ room_no sizes rooms }
+// Questions 12 to 14.
+#[tactic(auto, unfolding(crate::specs::Lists::room_no))]
+pub fn ask_room(sizes: Sizes, rooms: Rooms) -> Result<(), Question>
+    ensures { Answers (room_no sizes rooms) tt result }
 {
-    if sizes.text <= rooms.text {
-        if (sizes.tokens <= rooms.ends) & (sizes.tokens <= rooms.kinds) {
-            if (sizes.lines <= rooms.addresses)
-                & (sizes.lines <= rooms.marks)
-                & (sizes.lines <= rooms.places)
-                & (sizes.lines <= rooms.lines)
-            {
-                return 0;
-            }
-            return 14;
-        }
-        return 13;
+    if rooms.text < sizes.text {
+        return Err(Question::TextRoom);
     }
-    12
-}
-
-// A listing with its sizes, or the number of the question that got a no.
-#[derive(Clone, Copy)]
-pub enum Answer {
-    Listed(Sizes),
-    No(u8),
+    if rooms.ends.min(rooms.kinds) < sizes.tokens {
+        return Err(Question::TokenRoom);
+    }
+    let lines = rooms.addresses.min(rooms.marks).min(rooms.places);
+    if lines.min(rooms.lines) < sizes.lines {
+        return Err(Question::LineRoom);
+    }
+    Ok(())
 }

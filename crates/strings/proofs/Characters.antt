@@ -58,7 +58,7 @@ module _ (t p : List ℕ) (n i b k : ℕ) (e : p ≡ drop i t) (c : Spelt p b k)
         string = string_more w.bytes b w.string f.0;
         count = rw length-append (omega (arith, w.count));
         few = omega arith;
-        within = omega (arith, c.within, ap length e, length-drop i t, w.within);
+        within = omega (arith, c.min, ap length e, length-drop i t, w.min);
         text = rw escapes_more (left_from_lem f.1);
       }
 
@@ -118,7 +118,7 @@ module _ (t p out l l' : List ℕ) (n i k b m : ℕ) (e : p ≡ drop i t) (c : S
   pub filling_more : Filling t n out (i + m) (k + 1) l'
   filling_more =
       record {
-        within = omega (arith, c.within, ap length e, length-drop i t, w.within);
+        within = omega (arith, c.min, ap length e, length-drop i t, w.min);
         few = omega arith;
         long = ap length d ∙ length-set l k b ∙ w.long;
         text = next_text;

@@ -2,7 +2,8 @@
 ghost use Rattle.strings.specs.Reading.{Opens, Characters, Ends, Measured};
 
 use crate::character::first;
-use lists::reads::{from, same, u8_at};
+use lists::parts::from;
+use lists::reads::{same, u8_at};
 
 // How many characters, and how many bytes they have.
 #[derive(Clone, Copy)]

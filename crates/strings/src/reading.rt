@@ -4,7 +4,7 @@ ghost use Rattle.strings.specs.Reading.{Filled};
 
 use crate::character::first;
 use crate::literal::measure;
-use lists::reads::from;
+use lists::parts::from;
 use lists::stores::store;
 
 // How many bytes the string has, whether it was wide, whether it was cut; or the number of the question that got a no.

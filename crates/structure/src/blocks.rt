@@ -10,7 +10,7 @@ use crate::lines::{label, one_less, put_line, shown_lines};
 use cfg::edges::Looked;
 use cfg::graph::{branch_to, count_in, ending_in, first_in, label_wanted, last_in};
 use cfg::tests::has_outside_jump_to;
-use record::blocks::{Place, is_before, same_place};
+use record::blocks::Place;
 
 // Where a writer's lines end, and how many edges were read for them.
 #[derive(Clone, Copy)]
@@ -34,7 +34,7 @@ fn is_labelled(
     ensures looks { (result.looks ≡ label_looks blocks.now edges.now count from.0 i.0 to.0) × (result.looks ≤ edges_before blocks.now count) }
 {
     if label_wanted(blocks, i) {
-        if is_before(from, i) {
+        if from < i {
             return Looked {
                 found: true,
                 looks: 0,
@@ -93,7 +93,7 @@ fn jump_line(blocks: &[u16], i: Place, to: Place, indent: u32, out: &mut [u64], 
         return at;
     }
     let last = last_in(blocks, i);
-    if same_place(branch_to(blocks, i), Place(65535)) {
+    if branch_to(blocks, i) == Place(65535) {
         return put_line(out, at, 7, i, last, indent);
     }
     put_line(out, at, 6, i, last, indent)

@@ -5,7 +5,7 @@ ghost use Rattle.structure.specs.Codes.{line_code, codes, shown_line};
 ghost use Rattle.structure.specs.Stored.{Stored, Room};
 
 use cfg::graph::is_shown;
-use lists::stores::store_u64;
+use lists::stores::store;
 use record::blocks::Place;
 
 fn line_code(what: u64, k: Place, i: u32, indent: u32) -> u64
@@ -20,7 +20,7 @@ pub fn put_line(out: &mut [u64], at: usize, what: u64, k: Place, i: u32, indent:
     requires { (what < 16) × (i < 131072) × (indent < 131072) × Room at (line_code what k.0 i indent ∷ []) }
     ensures { Stored out.old at (line_code what k.0 i indent ∷ []) result out.new }
 {
-    store_u64(out, at, line_code(what, k, i, indent));
+    store(out, at, line_code(what, k, i, indent));
     at + 1
 }
 

@@ -11,13 +11,13 @@ use crate::lines::{label, one_less, put_line, shown_lines};
 use cfg::edges::Looked;
 use cfg::graph::{count_in, first_in, label_wanted, last_in};
 use cfg::tests::has_outside_jump_to;
-use record::blocks::{Place, is_before};
+use record::blocks::Place;
 
 // Whether block k of a do-body has a label there; i is the loop's head.
 fn inner_labelled(blocks: &[u16], i: Place, k: Place) -> bool
     ensures { result ≡ inner_labelled blocks.now i.0 k.0 }
 {
-    is_before(i, k) & label_wanted(blocks, k)
+    (i < k) & label_wanted(blocks, k)
 }
 
 // The blocks of a do-body from its head up to its last, the last not counted: to each the loop is the range being written.

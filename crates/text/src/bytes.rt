@@ -6,7 +6,6 @@ ghost use Rattle.text.specs.Literal.{code_text, letter_or, escape, escapes, open
 
 use crate::lengths::{escape_length, opening_length};
 use crate::number::{digit_of, hex_count};
-use lists::reads::within;
 
 // The digits behind the j-th are divided away.
 pub fn hex_byte(upper: bool, v: u64, j: usize) -> u8
@@ -193,7 +192,7 @@ fn closing_byte(longer: bool, j: usize) -> u8
 fn inside_byte(s: &[u8], j: usize) -> u8
     ensures { result ≡ get_or (escapes (take 80 s.now) ++ closing (ltb 80 (length s.now))) j 0 }
 {
-    let n = within(80, s.len());
+    let n = s.len().min(80);
     let mut k = j;
     for i in 0..n {
         let b = s[i];

@@ -4,7 +4,7 @@ ghost use Rattle.lists.specs.Put.{put};
 ghost use Rattle.text.specs.Number.{digit, hex_text, size_text, num_text};
 
 use crate::number::{digit_of, hex_count};
-use lists::stores::put_bytes;
+use lists::stores::put_slice;
 
 // v in hex, from the last digit to the first.
 fn write_hex(out: &mut [u8], upper: bool, v: u64) -> usize
@@ -65,6 +65,6 @@ pub fn write_prefixed(out: &mut [u8], prefix: &[u8], v: u64) -> usize
     ensures count { (result ≡ length (prefix.now ++ hex_text true v)) × (result ≤ length prefix.now + 16) }
     ensures text { out.new ≡ put 0 (prefix.now ++ hex_text true v) out.old }
 {
-    let n = put_bytes(out, prefix);
+    let n = put_slice(out, prefix);
     n + write_hex(&mut out[n..], true, v)
 }

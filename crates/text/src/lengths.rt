@@ -4,7 +4,6 @@ ghost use Rattle.text.specs.Number.{size_text, num_text};
 ghost use Rattle.text.specs.Literal.{code_text, letter_or, escape, escapes, opening, closing, literal_text};
 
 use crate::number::hex_count;
-use lists::reads::within;
 
 fn size_length(size: u64) -> usize
     ensures { (result ≡ length (size_text size)) × (result ≤ 18) }
@@ -48,7 +47,7 @@ pub fn escape_length(b: u8) -> usize
 fn escapes_length(s: &[u8]) -> usize
     ensures { (result ≡ length (escapes (take 80 s.now))) × (result ≤ 480) }
 {
-    let n = within(80, s.len());
+    let n = s.len().min(80);
     let mut sum: usize = 0;
     for i in 0..n {
         sum += escape_length(s[i]);

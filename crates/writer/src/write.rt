@@ -11,8 +11,8 @@ ghost use Rattle.writer.specs.Written.{page, place_for, written, on_page, Fits, 
 use crate::copy::copy_bytes;
 use codes::read::width;
 use lists::parts::part;
-use lists::reads::{u8_at, u64_in};
-use lists::stores::put_bytes;
+use lists::reads::{element_or, u8_at};
+use lists::stores::put_slice;
 use text::digits::{write_num, write_prefixed};
 use text::literal::put_literal;
 
@@ -34,10 +34,10 @@ fn write_text(out: &mut [u8], tables: &[u8], rec: &[u8], c: u64, v: u64) -> usiz
     let at = (c / 16777216) as usize;
     let n = (c / 256 % 65536) as usize;
     if what == 0 {
-        return put_bytes(out, part(tables, at, n));
+        return put_slice(out, part(tables, at, n));
     }
     if what == 1 {
-        return put_bytes(out, part(rec, at, n));
+        return put_slice(out, part(rec, at, n));
     }
     if what == 2 {
         return write_num(out, false, v);
@@ -159,7 +159,16 @@ pub fn write_codes(
             r = end_line(lines, r);
             i += 1;
         } else {
-            r = write_token(text, ends, kinds, r, tables, rec, c, u64_in(codes, i + 1));
+            r = write_token(
+                text,
+                ends,
+                kinds,
+                r,
+                tables,
+                rec,
+                c,
+                element_or(codes, i + 1, 0),
+            );
             i += width(c);
         }
     }

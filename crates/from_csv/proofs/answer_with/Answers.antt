@@ -12,13 +12,13 @@ returns-then-rows-gt262144 c = let end = c.put_refused.ensures.end in
 pub put_part-requires : goal.put_part-requires
 put_part-requires c =
     let a = c.args in
-    let few = listed_few a.rows.now _ _ c.requires.room _ c.read_rows.ensures (omega (arith, c.if-rows-gt262144.false)) _ c.in-Listed.is _ _ _ _ _ c.part.ensures.0 c.part_u32.ensures c.part_u32-in-Listed.ensures c.part_u64.ensures c.part_u16.ensures a.p in
+    let few = listed_few a.rows.now _ _ c.requires.room _ c.read_rows.ensures (omega (arith, c.if-rows-gt262144.false)) _ c.in-Listed.is _ _ _ _ _ c.part.ensures.0 c.part.ensures.0 c.part-in-Listed.ensures.0 c.part.ensures.0 c.part.ensures.0 a.p in
     (c.requires.part, few.0, few.1)
 
 pub returns-in-Listed : goal.returns-in-Listed
 returns-in-Listed c = let a = c.args in
     let s = a.rows.now in
-    let part = listed_prints s _ _ c.requires.room _ c.read_rows.ensures (omega (arith, c.if-rows-gt262144.false)) _ c.in-Listed.is _ _ _ _ _ c.part.ensures.0 c.part_u32.ensures c.part_u32-in-Listed.ensures c.part_u64.ensures c.part_u16.ensures a.p in
+    let part = listed_prints s _ _ c.requires.room _ c.read_rows.ensures (omega (arith, c.if-rows-gt262144.false)) _ c.in-Listed.is _ _ _ _ _ c.part.ensures.0 c.part.ensures.0 c.part-in-Listed.ensures.0 c.part.ensures.0 c.part.ensures.0 a.p in
     let end = c.put_part.ensures.end in
     record { end = omega (arith, end, part.0); whole = λ room. part.1 _ (stands_whole _ _ _ _ end c.put_part.ensures.text (omega (arith, end, part.0, room))) }
 

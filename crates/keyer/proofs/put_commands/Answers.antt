@@ -12,10 +12,10 @@ as_long : (n m : ℕ) → n ≡ m → n ≤ m
 as_long n m e = omega (arith, e)
 
 pub put_table-requires : goal.put_table-requires
-put_table-requires c = omega (arith, c.requires.room, text_fits _ _ c.args.call.now c.args.register.now c.requires.lists.0 c.requires.lists.1 c.requires.names _ _ (let l = length-replicate {A = ℕ} in let n = l 5461 0 in (as_long _ _ (sym (l 436880 0)), omega (arith, n), omega (arith, n))) _ c.command_table.ensures _ _ c.in-Entries.is _ _ _ c.part.ensures.0 c.part_u64.ensures c.part_u64-in-Entries.ensures)
+put_table-requires c = omega (arith, c.requires.room, text_fits _ _ c.args.call.now c.args.register.now c.requires.lists.0 c.requires.lists.1 c.requires.names _ _ (let l = length-replicate {A = ℕ} in let n = l 5461 0 in (as_long _ _ (sym (l 436880 0)), omega (arith, n), omega (arith, n))) _ c.command_table.ensures _ _ c.in-Entries.is _ _ _ c.part.ensures.0 c.part.ensures.0 c.part-in-Entries.ensures.0)
 
 pub returns-in-Entries : goal.returns-in-Entries
-returns-in-Entries c = stands_whole _ _ _ _ c.put_table.ensures.end c.put_table.ensures.text (omega (arith, c.put_table.ensures.end, c.requires.room, text_fits _ _ c.args.call.now c.args.register.now c.requires.lists.0 c.requires.lists.1 c.requires.names _ _ (let l = length-replicate {A = ℕ} in let n = l 5461 0 in (as_long _ _ (sym (l 436880 0)), omega (arith, n), omega (arith, n))) _ c.command_table.ensures _ _ c.in-Entries.is _ _ _ c.part.ensures.0 c.part_u64.ensures c.part_u64-in-Entries.ensures)) ∙ text_is _ _ c.args.call.now c.args.register.now c.requires.lists.0 c.requires.lists.1 c.requires.names _ _ (let l = length-replicate {A = ℕ} in let n = l 5461 0 in (as_long _ _ (sym (l 436880 0)), omega (arith, n), omega (arith, n))) _ c.command_table.ensures _ _ c.in-Entries.is _ _ _ c.part.ensures.0 c.part_u64.ensures c.part_u64-in-Entries.ensures
+returns-in-Entries c = stands_whole _ _ _ _ c.put_table.ensures.end c.put_table.ensures.text (omega (arith, c.put_table.ensures.end, c.requires.room, text_fits _ _ c.args.call.now c.args.register.now c.requires.lists.0 c.requires.lists.1 c.requires.names _ _ (let l = length-replicate {A = ℕ} in let n = l 5461 0 in (as_long _ _ (sym (l 436880 0)), omega (arith, n), omega (arith, n))) _ c.command_table.ensures _ _ c.in-Entries.is _ _ _ c.part.ensures.0 c.part.ensures.0 c.part-in-Entries.ensures.0)) ∙ text_is _ _ c.args.call.now c.args.register.now c.requires.lists.0 c.requires.lists.1 c.requires.names _ _ (let l = length-replicate {A = ℕ} in let n = l 5461 0 in (as_long _ _ (sym (l 436880 0)), omega (arith, n), omega (arith, n))) _ c.command_table.ensures _ _ c.in-Entries.is _ _ _ c.part.ensures.0 c.part.ensures.0 c.part-in-Entries.ensures.0
 
 pub returns-in-No : goal.returns-in-No
 returns-in-No c = not_refused _ _ c.args.call.now c.args.register.now c.requires.lists.0 c.requires.lists.1 c.requires.names _ _ (let l = length-replicate {A = ℕ} in let n = l 5461 0 in (as_long _ _ (sym (l 436880 0)), omega (arith, n), omega (arith, n))) _ c.command_table.ensures _ c.in-No.is

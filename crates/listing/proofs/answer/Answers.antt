@@ -22,7 +22,7 @@ returns-in-Listed c =
     let whole = c.size-to.ensures.0 ∙ ap (λ (h : Header). h.blocks) c.read_header.ensures in
     let bytes : AllBytes s = λ k. omega (arith, c.type_inv.rec k) in
     let kept = c.list-listed.auto in
-    let p = page_output s _ whole _ _ c.list-listed.ensures.called _ c.in-Listed.is _ _ _ _ _ c.part.ensures.0 c.part_u32.ensures c.part_u32-in-Listed.ensures c.part_u64.ensures c.part_u16.ensures in
+    let p = page_output s _ whole _ _ c.list-listed.ensures.called _ c.in-Listed.is _ _ _ _ _ c.part.ensures.0 c.part.ensures.0 c.part-in-Listed.ensures.0 c.part.ensures.0 c.part.ensures.0 in
     let short = short_output s _ whole _ _ c.list-listed.ensures.called _ c.in-Listed.is bytes (kept.text ∙ length-replicate {A = ℕ} 65536 0) (kept.addresses ∙ length-replicate {A = ℕ} 900 0) in
     let end = c.put_page.ensures.end ∙ ap length p in
     let text = c.put_page.ensures.text ∙ ap (λ (t : List ℕ). put 0 t out) p in

@@ -6,10 +6,10 @@ use Rattle.abi.proofs.Cases.{case_set}
 use Rattle.abi.proofs.check.put_broken.Goals as goal
 
 pub returns-in-Follows : goal.returns-in-Follows
-returns-in-Follows c = let held = case_set number_of broken_of _ Follows _ _ c.in-Follows.is c.store_u64.ensures in record { number = held.0; broken = held.1 }
+returns-in-Follows c = let held = case_set number_of broken_of _ Follows _ _ c.in-Follows.is c.store.ensures in record { number = held.0; broken = held.1 }
 
 pub returns-in-Broken : goal.returns-in-Broken
-returns-in-Broken c = let held = case_set number_of broken_of _ (Broken _) _ _ c.in-Broken.is c.store_u64-in-Broken.ensures in record { number = held.0; broken = held.1 }
+returns-in-Broken c = let held = case_set number_of broken_of _ (Broken _) _ _ c.in-Broken.is c.store-in-Broken.ensures in record { number = held.0; broken = held.1 }
 
 pub returns-in-No : goal.returns-in-No
-returns-in-No c = let held = case_set number_of broken_of _ (No _) _ _ c.in-No.is c.store_u64-in-No.ensures in record { number = held.0; broken = held.1 }
+returns-in-No c = let held = case_set number_of broken_of _ (No _) _ _ c.in-No.is c.store-in-No.ensures in record { number = held.0; broken = held.1 }

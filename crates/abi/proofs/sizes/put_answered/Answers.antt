@@ -5,4 +5,4 @@ use Rattle.abi.proofs.sizes.put_answered.Goals as goal
 
 pub returns : goal.returns
 returns c = let put = c.put_answer-number.ensures in
-    record { number = put.number; sizes = put_looks c.args.r.answer _ _ _ _ put.sizes c.store_u64.ensures }
+    record { number = put.number; sizes = put_looks c.args.r.answer _ _ _ _ put.sizes c.store.ensures }

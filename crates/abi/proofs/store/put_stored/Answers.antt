@@ -6,7 +6,7 @@ use Rattle.abi.proofs.Cases.{case_set}
 use Rattle.abi.proofs.store.put_stored.Goals as goal
 
 pub returns-in-Bytes : goal.returns-in-Bytes
-returns-in-Bytes c = let held = case_set number_of bytes_of _ (Bytes _) _ _ c.in-Bytes.is c.store_u64.ensures in record { number = held.0; size = held.1 }
+returns-in-Bytes c = let held = case_set number_of bytes_of _ (Bytes _) _ _ c.in-Bytes.is c.store.ensures in record { number = held.0; size = held.1 }
 
 pub returns-in-No : goal.returns-in-No
-returns-in-No c = let held = case_set number_of bytes_of _ (No _) _ _ c.in-No.is c.store_u64-in-No.ensures in record { number = held.0; size = held.1 }
+returns-in-No c = let held = case_set number_of bytes_of _ (No _) _ _ c.in-No.is c.store-in-No.ensures in record { number = held.0; size = held.1 }

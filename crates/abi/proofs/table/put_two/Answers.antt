@@ -4,4 +4,4 @@ use Rattle.abi.proofs.Tables.{put_two}
 use Rattle.abi.proofs.table.put_two.Goals as goal
 
 pub returns : goal.returns
-returns c = put_two _ _ _ _ _ c.store_u64.ensures c.store_u64-2.ensures
+returns c = put_two _ _ _ _ _ c.store.ensures c.store-2.ensures

@@ -11,4 +11,4 @@ returns-then-count_in-eq0 c = let n = c.count_in in simp (sym n.ensures.0, eq-eq
 
 pub returns : goal.returns
 unfolding ending_in
-returns c = let n = c.count_in in simp (sym n.ensures.0, ne_eqb _ _ c.if-count_in-eq0.false, c.u16_in.ensures.0)
+returns c = let n = c.count_in in simp (sym n.ensures.0, ne_eqb _ _ c.if-count_in-eq0.false, c.element_or.ensures)

@@ -14,23 +14,23 @@ last_loop-sought-requires c =
 
 pub is_loop-test-requires : goal.is_loop-test-requires
 is_loop-test-requires c = let a = c.args in
-    record { in_turn = c.requires.in_turn; j_lt_count = omega (arith, c.requires.i_lt_to, loop_before a.blocks.now a.edges.now a.i.0 a.to.0 c.in-AtPlace.j (sym c.last_loop-sought.ensures.found ∙ c.in-AtPlace.is)) }
+    record { in_turn = c.requires.in_turn; j_lt_count = omega (arith, c.requires.i_lt_to, loop_before a.blocks.now a.edges.now a.i.0 a.to.0 c.in-Some.j (sym c.last_loop-sought.ensures.found ∙ c.in-Some.is)) }
 
 pub returns-then-test : goal.returns-then-test
 returns-then-test c = let a = c.args in
     let held = stands_loop a.blocks.now a.edges.now a.starts.now a.targets.now a.count a.i.0 a.to.0 c.requires.i_lt_to.0 c.requires.i_lt_to.1
     c.last_loop-sought.result.place c.last_loop-sought.result.looks c.last_loop-sought.ensures.found c.last_loop-sought.ensures.looks.0
-    c.in-AtPlace.j c.in-AtPlace.is c.is_loop-test.ensures.found c.is_loop-test.ensures.looks.0 c.if-test.true in record { shape = held.0; looks = held.1 }
+    c.in-Some.j c.in-Some.is c.is_loop-test.ensures.found c.is_loop-test.ensures.looks.0 c.if-test.true in record { shape = held.0; looks = held.1 }
 
 pub returns-else-test : goal.returns-else-test
 returns-else-test c = let a = c.args in
     let held = stands_no_loop a.blocks.now a.edges.now a.starts.now a.targets.now a.count a.i.0 a.to.0 c.requires.i_lt_to.0 c.requires.i_lt_to.1
     c.last_loop-sought.result.place c.last_loop-sought.result.looks c.last_loop-sought.ensures.found c.last_loop-sought.ensures.looks.0
-    c.in-AtPlace.j c.in-AtPlace.is c.is_loop-test.ensures.found c.is_loop-test.ensures.looks.0 c.if-test.false
+    c.in-Some.j c.in-Some.is c.is_loop-test.ensures.found c.is_loop-test.ensures.looks.0 c.if-test.false
     c.region_at.result.shape c.region_at.result.looks c.region_at.ensures.shape c.region_at.ensures.looks in record { shape = held.0; looks = held.1 }
 
-pub returns-in-NoPlace : goal.returns-in-NoPlace
-returns-in-NoPlace c = let a = c.args in
+pub returns-in-None : goal.returns-in-None
+returns-in-None c = let a = c.args in
     let held = stands_alone a.blocks.now a.edges.now a.starts.now a.targets.now a.count a.i.0 a.to.0 c.requires.i_lt_to.0 c.requires.i_lt_to.1
     c.last_loop-sought.result.place c.last_loop-sought.result.looks c.last_loop-sought.ensures.found c.last_loop-sought.ensures.looks.0
-    c.in-NoPlace.is c.region_at-in-NoPlace.result.shape c.region_at-in-NoPlace.result.looks c.region_at-in-NoPlace.ensures.shape c.region_at-in-NoPlace.ensures.looks in record { shape = held.0; looks = held.1 }
+    c.in-None.is c.region_at-in-None.result.shape c.region_at-in-None.result.looks c.region_at-in-None.ensures.shape c.region_at-in-None.ensures.looks in record { shape = held.0; looks = held.1 }

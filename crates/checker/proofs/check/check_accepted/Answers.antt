@@ -8,7 +8,7 @@ pub block_rows-requires : goal.block_rows-requires
 block_rows-requires c = counted c.args.h c.args.rec.now c.requires
 
 pub first_broken-broken-requires : goal.first_broken-broken-requires
-first_broken-broken-requires c = record { accepted = c.requires; blocks_value = rows_are c.args.h c.args.rec.now c.requires _ _ _ c.block_rows.ensures c.part_u16-blocks.ensures c.size.ensures.0 }
+first_broken-broken-requires c = record { accepted = c.requires; blocks_value = rows_are c.args.h c.args.rec.now c.requires _ _ _ c.block_rows.ensures c.part-blocks.ensures.0 c.size.ensures.0 }
 
 pub returns-then-broken-eq0 : goal.returns-then-broken-eq0
 returns-then-broken-eq0 c =

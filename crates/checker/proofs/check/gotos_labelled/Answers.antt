@@ -12,4 +12,4 @@ pub returns : goal.returns
 unfolding gotos_labelled
 returns c =
     c.all_labelled.ensures
-    ∙ rw (lines_are c.args.h c.args.rec.now c.requires.accepted _ _ _ c.plan_record-planned.ensures.lines c.part_u64.ensures, c.requires.blocks_value)
+    ∙ rw (lines_are c.args.h c.args.rec.now c.requires.accepted _ _ _ c.plan_record-planned.ensures.lines c.part.ensures.0, c.requires.blocks_value)

@@ -8,7 +8,7 @@ pub returns-then-k-n : goal.returns-then-k-n
 returns-then-k-n c =
     let a = c.args in
     let l = c.loop-i in
-    let u = c.u64_in-v in
+    let u = c.element_or-v in
     let m = c.length_of-n in
     in_code a.tables.now a.rec.now a.codes.now l.i _ u.result m.result l.k c.loop-i-test.true refl u.ensures.0 m.ensures _ _ c.if-k-n.true c.byte_in.ensures l.invariant
 
@@ -16,7 +16,7 @@ pub loop-i-preserved : goal.loop-i-preserved
 loop-i-preserved c =
     let a = c.args in
     let l = c.loop-i in
-    let u = c.u64_in-v in
+    let u = c.element_or-v in
     let m = c.length_of-n in
     sym (behind_code a.tables.now a.rec.now a.codes.now l.i c.width-i.result u.result m.result l.k c.loop-i-test.true c.width-i.ensures u.ensures.0 m.ensures c.if-k-n.false)
     ∙ l.invariant

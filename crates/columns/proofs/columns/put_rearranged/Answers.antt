@@ -18,6 +18,6 @@ returns c =
     (length-take-le a.at s (omega (arith, c.requires)))
     (ap (λ k. a.at + k) (transposed_length a.m a.n (drop a.at s)))
     (omega (arith, c.requires))
-    (rw c.part.ensures.0 at c.put_bytes.ensures.text)
+    (rw c.part.ensures.0 at c.put_slice.ensures.text)
     c.put_columns.ensures
-    (rw c.from.ensures.0 at c.put_bytes-2.ensures.text)
+    (rw c.from.ensures.0 at c.put_slice-2.ensures.text)

@@ -19,4 +19,4 @@ pub overflow_add-result : goal.overflow_add-result
 overflow_add-result c = omega (arith, c.requires, line_length (table_lists c.args.bytes.now c.args.rows.now c.args.addresses.now) c.args.j, sixteen_end _ c.put_sixteen-p.ensures, c.put_value-q.ensures.end)
 
 pub returns : goal.returns
-returns c = wrote_line _ _ c.u64_in.ensures.0 c.put_sixteen-p.ensures c.store.ensures c.put_value-q.ensures c.store-2.ensures
+returns c = wrote_line _ _ c.element_or.ensures c.put_sixteen-p.ensures c.store.ensures c.put_value-q.ensures c.store-2.ensures

@@ -24,7 +24,7 @@ loop-i-preserved-then-calls_to c =
     let a = d.args in (
       going_on d.loop-i.invariant.0 h _ _ (omega arith) (omega (arith, p.put_row-x.ensures.end, f.ensures.size.0)) f.auto.out,
       storing_call _ _ _ _ _ h (e a.addresses.now a.places.now) p.if-calls_to.true d.loop-i.invariant.1 (f.ensures.size.1 a.addresses.now)
-          _ _ _ (f.ensures.bytes a.addresses.now) p.put_row-x.ensures.end p.put_row-x.ensures.bytes p.put_row-x.ensures.row c.u64_in.ensures.0 c.store_u64.ensures,
+          _ _ _ (f.ensures.bytes a.addresses.now) p.put_row-x.ensures.end p.put_row-x.ensures.bytes p.put_row-x.ensures.row c.element_or.ensures c.store.ensures,
     )
 
 pub loop-i-preserved : goal.loop-i-preserved

@@ -40,7 +40,7 @@ plan-requires c = let h = c.args.h in
     let s = c.args.rec.now in
     let d =
     filled (edge_rows h s) _ _ _ (2 * c.size.result) (2 * h.edges) (edges_length h s) c.requires.room (omega (arith, c.size.ensures))
-    c.edge_rows.ensures c.part_u16-e.ensures in
+    c.edge_rows.ensures c.part-e.ensures.0 in
     let t = array _ _ _ _ c.targets_at.ensures.0 c.from-2.ensures.0 in
     let held = plans h s _ _ _ _ c.requires.rows d c.from.ensures.0 t c.args.from c.args.to c.requires.asked in record { to_le_count = held.0; in_turn = held.1.0; count_in_bounds = held.1.1 }
 
@@ -50,7 +50,7 @@ returns c = let h = c.args.h in
     let s = c.args.rec.now in
     let d =
     filled (edge_rows h s) _ _ _ (2 * c.size.result) (2 * h.edges) (edges_length h s) c.requires.room (omega (arith, c.size.ensures))
-    c.edge_rows.ensures c.part_u16-e.ensures in
+    c.edge_rows.ensures c.part-e.ensures.0 in
     let t = array _ _ _ _ c.targets_at.ensures.0 c.from-2.ensures.0 in
     let small = limits_small h c.requires.asked.limits in
     let v =

@@ -4,4 +4,4 @@ use Rattle.flow.proofs.Storing.{put_two}
 use Rattle.flow.proofs.rows.put_two.Goals as goal
 
 pub returns : goal.returns
-returns c = put_two _ _ _ _ _ _ c.store_u16.ensures c.store_u16-2.ensures
+returns c = put_two _ _ _ _ _ _ c.store.ensures c.store-2.ensures

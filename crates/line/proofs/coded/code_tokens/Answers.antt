@@ -11,7 +11,7 @@ code_frame-requires c = record { lent = c.requires.lent; rows_value = c.requires
 pub returns-then-what-lt8 : goal.returns-then-what-lt8
 returns-then-what-lt8 c =
     let a = c.args in
-    as_tokens (line_is a.h a.rec.now a.blocks.now a.range a.mask a.code _ _ _ _ _ _ c.requires.blocks_value c.place_of_line-place.ensures c.instruction_of-i.ensures c.size.ensures.0 c.u16_in-first.ensures.0 c.what_of-what.ensures c.line_form-form.ensures) c.code_frame.ensures
+    as_tokens (line_is a.h a.rec.now a.blocks.now a.range a.mask a.code _ _ _ _ _ _ c.requires.blocks_value c.place_of_line-place.ensures c.instruction_of-i.ensures c.size.ensures.0 c.element_or-first.ensures c.what_of-what.ensures c.line_form-form.ensures) c.code_frame.ensures
 
 pub code_row-requires : goal.code_row-requires
 code_row-requires c = record { lent = c.requires.lent; rows_value = c.requires.rows_value; body_value = c.body_of-body.ensures; codes_value = c.requires.codes_value; form_bound = form_below _ _ (c.line_form-form.ensures) }
@@ -19,4 +19,4 @@ code_row-requires c = record { lent = c.requires.lent; rows_value = c.requires.r
 pub returns : goal.returns
 returns c =
     let a = c.args in
-    as_tokens (line_is a.h a.rec.now a.blocks.now a.range a.mask a.code _ _ _ _ _ _ c.requires.blocks_value c.place_of_line-place.ensures c.instruction_of-i.ensures c.size.ensures.0 c.u16_in-first.ensures.0 c.what_of-what.ensures c.line_form-form.ensures) c.code_row.ensures
+    as_tokens (line_is a.h a.rec.now a.blocks.now a.range a.mask a.code _ _ _ _ _ _ c.requires.blocks_value c.place_of_line-place.ensures c.instruction_of-i.ensures c.size.ensures.0 c.element_or-first.ensures c.what_of-what.ensures c.line_form-form.ensures) c.code_row.ensures

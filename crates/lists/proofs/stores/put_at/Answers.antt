@@ -1,5 +1,5 @@
 -- `stores::put_at` meets its contract.
--- One step of storing a list where byte i is stored; past the last of them nothing is left to store.
+-- One step of storing a list where element i is stored; past the last of them nothing is left to store.
 use mathlib.Core.Path.{refl, sym, ◌∙◌}
 use native.Mathlib.Omega.{arith}
 use lib.ListN.{length-set}
@@ -7,7 +7,7 @@ use Rattle.lists.proofs.Storing.{step, done}
 use Rattle.lists.proofs.stores.put_at.Goals as goal
 
 pub returns-then-i-n : goal.returns-then-i-n
-returns-then-i-n c = (simp length-set refl, step _ _ _ (omega arith))
+returns-then-i-n g c = (simp length-set refl, step _ _ _ _ c.index-s-i.is (omega arith))
 
 pub returns-else-i-n : goal.returns-else-i-n
-returns-else-i-n c = (refl, done _ _ _ (omega arith) ∙ sym (done _ _ _ (omega arith)))
+returns-else-i-n g c = (refl, done _ _ _ (omega arith) ∙ sym (done _ _ _ (omega arith)))

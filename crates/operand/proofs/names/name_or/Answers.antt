@@ -4,10 +4,10 @@ use mathlib.Core.Path.{sym}
 use Rattle.operand.specs.Names.{name_or}
 use Rattle.operand.proofs.names.name_or.Goals as goal
 
-pub returns-in-At : goal.returns-in-At
+pub returns-in-Some : goal.returns-in-Some
 unfolding name_or
-returns-in-At c = rw (sym c.entry_at.ensures, c.in-At.is) c.code_entry.ensures
+returns-in-Some c = rw (sym c.entry_at.ensures, c.in-Some.is) c.code_entry.ensures
 
-pub returns-in-Nothing : goal.returns-in-Nothing
+pub returns-in-None : goal.returns-in-None
 unfolding name_or
-returns-in-Nothing c = rw (sym c.entry_at.ensures, c.in-Nothing.is) (c.code_prefixed.ensures c.args.rec.now)
+returns-in-None c = rw (sym c.entry_at.ensures, c.in-None.is) (c.code_prefixed.ensures c.args.rec.now)

@@ -4,4 +4,4 @@ use Rattle.lists.specs.PutLaws.{put_rest}
 use Rattle.page.proofs.line.put_text.Goals as goal
 
 pub returns : goal.returns
-returns c = put_rest _ _ _ _ _ c.within-m.ensures c.put_bytes.ensures.text
+returns c = put_rest _ _ _ _ _ c.min-m.ensures c.put_slice.ensures.text

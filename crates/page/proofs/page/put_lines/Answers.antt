@@ -12,11 +12,11 @@ loop-j-preserved c =
     let l = c.loop-j in (
       search rules,
       search rules,
-      lines_end_lem a.ends.now a.lines.now _ _ _ c.u32_in.ensures.0 c.tokens_end-end.ensures,
+      lines_end_lem a.ends.now a.lines.now _ _ _ c.element_or.ensures c.tokens_end-end.ensures,
       omega (arith, l.invariant.3),
       omega (arith, l.invariant.3, l.invariant.4, c.requires.3, c.between-bytes.ensures.1, c.put_line-p.ensures.end.1),
       lines_turn a.text.now a.ends.now a.lines.now a.addresses.now a.marks.now a.i _ _ _ l.j l.start _ _ _ _ l.p _ _ _ _ c.loop-j-test.true l.invariant.2
-          c.u32_in.ensures.0 c.tokens_end-end.ensures c.between-bytes.ensures.0 c.u16_in.ensures.0 c.u64_in.ensures.0 c.put_line-p.ensures.end.0 c.put_line-p.ensures.text l.invariant.5,
+          c.element_or.ensures c.tokens_end-end.ensures c.between-bytes.ensures.0 c.element_or.ensures c.element_or.ensures c.put_line-p.ensures.end.0 c.put_line-p.ensures.text l.invariant.5,
     )
 
 pub returns : goal.returns

@@ -12,7 +12,7 @@ pub list_plan-answer-requires : goal.list_plan-answer-requires
 list_plan-answer-requires c = let h = c.args.h in
     let s = c.args.rec.now in
     let yes = c.requires.accepted in
-    let e = codes_are s c.args.from c.args.to h yes _ _ _ _ c.requires.blocks_in_bounds c.plan_record-planned.ensures.lines c.part_u64-plan.ensures in
+    let e = codes_are s c.args.from c.args.to h yes _ _ _ _ c.requires.blocks_in_bounds c.plan_record-planned.ensures.lines c.part-plan.ensures.0 in
     let bytes : AllBytes s = λ k. omega (arith, c.type_inv.rec k) in
     record { tables_value = c.requires.tables_value; rows_value = c.requires.rows_value; blocks_value = c.requires.blocks_value; fits = plan_fits s c.args.from c.args.to h yes _ e bytes _; indented = plan_indented s c.args.from c.args.to h yes _ e }
 
@@ -23,5 +23,5 @@ returns c = let s = c.args.rec.now in
     let h = c.args.h in
     let yes = c.requires.accepted in
     let planned = c.plan_record-planned.ensures in
-    let e = codes_are s from to h yes _ _ _ _ c.requires.blocks_in_bounds planned.lines c.part_u64-plan.ensures in
-    rw c.with_looks.ensures.answer (record { lists = called s from to h yes _ e c.args.blocks.now _ _ _ _ _ c.requires.blocks_value c.size.ensures.0 c.u16_in-range.ensures.0 c.list_plan-answer.ensures; looks = looks_carried s from to h yes _ _ _ planned.looks c.with_looks.ensures.looks })
+    let e = codes_are s from to h yes _ _ _ _ c.requires.blocks_in_bounds planned.lines c.part-plan.ensures.0 in
+    rw c.with_looks.ensures.answer (record { lists = called s from to h yes _ e c.args.blocks.now _ _ _ _ _ c.requires.blocks_value c.size.ensures.0 c.element_or-range.ensures c.list_plan-answer.ensures; looks = looks_carried s from to h yes _ _ _ planned.looks c.with_looks.ensures.looks })

@@ -16,7 +16,7 @@ pub size_plan-sizes-requires : goal.size_plan-sizes-requires
 size_plan-sizes-requires c = let h = c.args.h in
     let s = c.args.rec.now in
     let yes = c.requires.accepted in
-    let e = codes_are s c.args.from c.args.to h yes (replicate 900 0) _ _ _ (omega (arith, plan_room s c.args.from c.args.to h yes, length-replicate {A = ℕ} 900 0)) c.plan_record-planned.ensures.lines c.part_u64-plan.ensures in
+    let e = codes_are s c.args.from c.args.to h yes (replicate 900 0) _ _ _ (omega (arith, plan_room s c.args.from c.args.to h yes, length-replicate {A = ℕ} 900 0)) c.plan_record-planned.ensures.lines c.part-plan.ensures.0 in
     let bytes : AllBytes s = λ k. omega (arith, c.type_inv.rec k) in
     record { tables_value = c.requires.tables_value; rows_value = c.requires.rows_value; blocks_value = c.requires.blocks_value; fits = plan_fits s c.args.from c.args.to h yes _ e bytes _ }
 
@@ -28,5 +28,5 @@ returns c = let s = c.args.rec.now in
     let yes = c.requires.accepted in
     let planned = c.plan_record-planned.ensures in
     let room : h.instructions + 2 * h.blocks ≤ length (replicate {A = ℕ} 900 0) = omega (arith, plan_room s from to h yes, length-replicate {A = ℕ} 900 0) in
-    let e = codes_are s from to h yes (replicate 900 0) _ _ _ room planned.lines c.part_u64-plan.ensures in
-    rw c.with_looks.ensures.answer (record { sizes = ap Listed (sized s from to h yes _ e c.args.blocks.now _ _ _ c.requires.blocks_value c.size.ensures.0 c.u16_in-range.ensures.0 c.size_plan-sizes.ensures); looks = looks_carried s from to h yes _ _ _ planned.looks c.with_looks.ensures.looks })
+    let e = codes_are s from to h yes (replicate 900 0) _ _ _ room planned.lines c.part-plan.ensures.0 in
+    rw c.with_looks.ensures.answer (record { sizes = ap Listed (sized s from to h yes _ e c.args.blocks.now _ _ _ c.requires.blocks_value c.size.ensures.0 c.element_or-range.ensures c.size_plan-sizes.ensures); looks = looks_carried s from to h yes _ _ _ planned.looks c.with_looks.ensures.looks })

@@ -3,7 +3,7 @@
 use mathlib.Core.Path.{◌≡◌}
 use mathlib.Core.Bool.{◌&&◌}
 use lib.Dec.{leb}
-use Prim.Native.Nat.{◌≤◌, ◌-◌}
+use Prim.Native.Nat.{◌≤◌}
 use Rattle.lists.specs.Bytes.{u8_at}
 use Rattle.lists.specs.Choice.{all_below}
 use Rattle.record.proofs.atlas.plain_name_ok.Given as goal

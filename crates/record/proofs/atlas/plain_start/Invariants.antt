@@ -1,7 +1,7 @@
 -- `plain_start` meets its contract.
 -- The invariant: the lengths so far, summed, each below 256.
 use mathlib.Core.Path.{◌≡◌}
-use Prim.Native.Nat.{◌*◌, ◌≤◌, ◌-◌}
+use Prim.Native.Nat.{◌*◌, ◌≤◌}
 use Rattle.record.specs.Atlas.{text_start}
 use Rattle.record.proofs.atlas.plain_start.Given as goal
 

@@ -2,7 +2,7 @@
 -- The invariant: so far every byte suits, or `ok` is false.
 use mathlib.Core.Path.{◌≡◌}
 use lib.Dec.{ltb}
-use Prim.Native.Nat.{◌≤◌, ◌-◌}
+use Prim.Native.Nat.{◌≤◌}
 use Rattle.lists.specs.Bytes.{u8_at}
 use Rattle.lists.specs.Choice.{all_below}
 use Rattle.record.proofs.atlas.plain_string_ok.Given as goal

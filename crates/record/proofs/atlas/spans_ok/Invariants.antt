@@ -1,7 +1,7 @@
 -- Question 10: `spans_ok` meets its contract.
 -- The invariant: so far every span is right, or `ok` is false.
 use mathlib.Core.Path.{◌≡◌}
-use Prim.Native.Nat.{◌≤◌, ◌-◌}
+use Prim.Native.Nat.{◌≤◌}
 use lib.Dec.{leb}
 use Rattle.lists.specs.Choice.{all_below}
 use Rattle.record.specs.Atlas.{span_first, span_last}

@@ -1,7 +1,7 @@
 -- `text_ok` meets its contract.
 -- Where bytes are missing the invariant: so far every byte suits the kind, or `ok` is false.
 use mathlib.Core.Path.{◌≡◌}
-use Prim.Native.Nat.{◌≤◌, ◌-◌}
+use Prim.Native.Nat.{◌≤◌}
 use Rattle.lists.specs.Bytes.{u8_at}
 use Rattle.lists.specs.Choice.{all_below}
 use Rattle.record.specs.Atlas.{text_byte_ok}

@@ -1,7 +1,7 @@
 -- `text_start` meets its contract.
 -- Where pairs are missing the invariant: the lengths so far, summed.
 use mathlib.Core.Path.{◌≡◌}
-use Prim.Native.Nat.{◌*◌, ◌≤◌, ◌-◌}
+use Prim.Native.Nat.{◌*◌, ◌≤◌}
 use Rattle.record.specs.Atlas.{text_start}
 use Rattle.record.proofs.atlas.text_start.Given as goal
 

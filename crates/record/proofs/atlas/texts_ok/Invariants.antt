@@ -1,7 +1,7 @@
 -- `texts_ok` meets its contract.
 -- The invariant: so far every text suits its kind, or `ok` is false; `at` is where the next text begins.
 use mathlib.Core.Path.{◌≡◌}
-use Prim.Native.Nat.{◌*◌, ◌≤◌, ◌-◌}
+use Prim.Native.Nat.{◌*◌, ◌≤◌}
 use lib.ListN.{drop}
 use Rattle.lists.specs.Choice.{all_below}
 use Rattle.record.specs.Atlas.{entry_kind, entry_length, text_start, text_ok}

@@ -1,7 +1,7 @@
 -- Question 7: `edge_kinds_ok` meets its contract.
 -- The invariant: so far every kind is at most 4, or `ok` is false.
 use mathlib.Core.Path.{◌≡◌}
-use Prim.Native.Nat.{◌≤◌, ◌-◌}
+use Prim.Native.Nat.{◌≤◌}
 use lib.Dec.{leb}
 use Rattle.lists.specs.Choice.{all_below}
 use Rattle.record.specs.Blocks.{edge_kind_at}

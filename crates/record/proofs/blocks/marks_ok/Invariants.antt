@@ -1,7 +1,7 @@
 -- Question 5: `marks_ok` meets its contract.
 -- The invariant: the two sums, and whether every label mark so far is 0 or 1.
 use mathlib.Core.Path.{◌≡◌}
-use Prim.Native.Nat.{◌≤◌, ◌-◌, ◌*◌}
+use Prim.Native.Nat.{◌≤◌, ◌*◌}
 use lib.Dec.{leb}
 use Rattle.lists.specs.Choice.{all_below, sum_below}
 use Rattle.record.specs.Blocks.{instructions_in, edges_in, label_mark}

@@ -2,7 +2,7 @@
 -- Starts that rise differ. For the others the invariant: every start so far is new.
 use mathlib.Core.Path.{◌≡◌}
 use mathlib.Core.Bool.{true}
-use Prim.Native.Nat.{◌≤◌, ◌-◌}
+use Prim.Native.Nat.{◌≤◌}
 use Rattle.lists.specs.Choice.{all_below}
 use Rattle.record.specs.Blocks.{start_is_new}
 use Rattle.record.proofs.blocks.starts_differ.Given as goal

@@ -1,7 +1,7 @@
 -- `is_name` meets its contract.
 -- The invariant: so far every byte goes on as a name does, or `ok` is false; `before` is the last of them.
 use mathlib.Core.Path.{◌≡◌}
-use Prim.Native.Nat.{◌≤◌, ◌-◌}
+use Prim.Native.Nat.{◌≤◌}
 use Rattle.lists.specs.Bytes.{u8_at}
 use Rattle.lists.specs.Choice.{all_below}
 use Rattle.record.specs.Body.{name_goes_on}

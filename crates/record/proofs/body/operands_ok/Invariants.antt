@@ -1,7 +1,7 @@
 -- `operands_ok` meets its contract.
 -- The invariant: so far every operand is right, or `ok` is false.
 use mathlib.Core.Path.{◌≡◌}
-use Prim.Native.Nat.{◌≤◌, ◌-◌}
+use Prim.Native.Nat.{◌≤◌}
 use Rattle.lists.specs.Choice.{all_below}
 use Rattle.record.specs.Body.{operand_ok}
 use Rattle.record.proofs.body.operands_ok.Given as goal

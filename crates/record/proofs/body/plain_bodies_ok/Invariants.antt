@@ -2,7 +2,7 @@
 -- The invariant: every body so far is right.
 use mathlib.Core.Path.{◌≡◌}
 use mathlib.Core.Bool.{true}
-use Prim.Native.Nat.{◌≤◌, ◌-◌}
+use Prim.Native.Nat.{◌≤◌}
 use Rattle.lists.specs.Choice.{all_below}
 use Rattle.record.specs.Body.{body_at, body_ok}
 use Rattle.record.proofs.body.plain_bodies_ok.Given as goal

@@ -1,7 +1,7 @@
 -- Question 15: `branches_ok` meets its contract.
 -- The invariant: the first edge and instruction of block k, and whether every block before it agrees.
 use mathlib.Core.Path.{◌≡◌}
-use Prim.Native.Nat.{◌-◌, ◌*◌, ◌≤◌}
+use Prim.Native.Nat.{◌*◌, ◌≤◌}
 use Rattle.lists.specs.Choice.{all_below}
 use Rattle.record.specs.Blocks.{first_instruction, first_edge}
 use Rattle.record.specs.Branches.{branch_ok}

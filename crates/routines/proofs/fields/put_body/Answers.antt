@@ -45,6 +45,6 @@ returns c =
       | in-Ret w ↦ of-ret _ _ w.in-Ret.is w.body-is
       | in-Fall w ↦ of-fall _ _ w.in-Fall.is w.body-is
       | in-Jmp w ↦ of-jmp _ _ _ w.in-Jmp.is (w.body-is ∙ w.put_branch.ensures)
-      | in-Jne w ↦ of-jne _ _ _ _ _ w.in-Jne.is w.put_branch-in-Jne.ensures w.put_bytes.ensures.text w.body-is
+      | in-Jne w ↦ of-jne _ _ _ _ _ w.in-Jne.is w.put_branch-in-Jne.ensures w.put_slice.ensures.text w.body-is
     ] in
-    record { end = refl; bytes = put_rest _ _ _ _ _ (omega arith) (rw filled at c.put_bytes-2.ensures.text) }
+    record { end = refl; bytes = put_rest _ _ _ _ _ (omega arith) (rw filled at c.put_slice-2.ensures.text) }

@@ -2,7 +2,7 @@
 -- The invariant: index k behind the spelling of byte i - 1 is index j of the whole.
 use mathlib.Core.Path.{◌≡◌}
 use mathlib.Core.List.{◌++◌}
-use Prim.Native.Nat.{◌-◌, ◌≤◌}
+use Prim.Native.Nat.{◌≤◌}
 use lib.Dec.{ltb}
 use lib.ListN.{length, take, drop, get_or}
 use Rattle.text.specs.Literal.{escapes, closing}

@@ -9,6 +9,6 @@ use Rattle.text.proofs.digits.write_prefixed.Goals as goal
 
 pub returns : goal.returns
 returns c = let h = c.write_hex.ensures in
-    let p = c.put_bytes-n in
+    let p = c.put_slice-n in
     let a = c.args in
     let l = length-append a.prefix.now (hex_text true a.v) in record { count = (rw length-append (omega arith), omega arith); text = put_both _ _ _ _ _ _ _ p.ensures.count p.ensures.text (omega (arith, l, p.auto.out)) h.text }

@@ -2,7 +2,7 @@
 -- The invariant: what is summed and the spellings that are left are as long as all of them.
 use Rattle.text.specs.Literal.{escapes}
 use lib.ListN.{length, take, drop}
-use Prim.Native.Nat.{◌≤◌, ◌+◌, ◌-◌, ◌*◌}
+use Prim.Native.Nat.{◌≤◌, ◌+◌, ◌*◌}
 use mathlib.Core.Path.{◌≡◌}
 use Rattle.text.proofs.lengths.escapes_length.Given as goal
 

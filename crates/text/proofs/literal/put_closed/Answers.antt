@@ -10,4 +10,4 @@ use borrow.Author.Rules.{rules}
 use Rattle.text.proofs.literal.put_closed.Goals as goal
 
 pub returns : goal.returns
-returns c = let a = c.args in record { count = (rw length-append (omega arith), omega (arith, hex_length false 1 a.b (search rules))); text = put_both _ _ (hex_text false a.b) _ _ _ _ c.put_hex-n.ensures.count.0 c.put_hex-n.ensures.text c.within-m.ensures c.put_bytes.ensures.text }
+returns c = let a = c.args in record { count = (rw length-append (omega arith), omega (arith, hex_length false 1 a.b (search rules))); text = put_both _ _ (hex_text false a.b) _ _ _ _ c.put_hex-n.ensures.count.0 c.put_hex-n.ensures.text c.min-m.ensures c.put_slice.ensures.text }

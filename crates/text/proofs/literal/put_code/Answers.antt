@@ -8,4 +8,4 @@ use Rattle.text.proofs.literal.put_code.Goals as goal
 
 pub returns : goal.returns
 unfolding code_text
-returns c = record { count = (omega arith, omega arith); text = put_both _ _ (ascii "\\u{") _ _ _ _ c.put_bytes-n.ensures.count c.put_bytes-n.ensures.text c.within-m.ensures c.put_closed.ensures.text }
+returns c = record { count = (omega arith, omega arith); text = put_both _ _ (ascii "\\u{") _ _ _ _ c.put_slice-n.ensures.count c.put_slice-n.ensures.text c.min-m.ensures c.put_closed.ensures.text }

@@ -32,7 +32,7 @@ loop-i-preserved c =
       omega arith,
       search rules,
       omega (arith, c.loop-i.invariant.3, escapes_count s 80 c.loop-i.i h, c.put_escape-at.ensures.count.0),
-      turn s c.loop-i.i _ _ _ _ _ h c.put_escape-at.ensures.count.0 c.within-m.ensures c.put_escape-at.ensures.text ∙ c.loop-i.invariant.4,
+      turn s c.loop-i.i _ _ _ _ _ h c.put_escape-at.ensures.count.0 c.min-m.ensures c.put_escape-at.ensures.text ∙ c.loop-i.invariant.4,
     )
 
 pub returns : goal.returns

@@ -1,7 +1,7 @@
 -- `literal::put_escapes` meets its contract.
 -- The invariant: to store the spellings that are left where the loop stands is to store all of them where it began.
 use mathlib.Core.Path.{◌≡◌}
-use Prim.Native.Nat.{◌≤◌, ◌+◌, ◌-◌, ◌*◌}
+use Prim.Native.Nat.{◌≤◌, ◌+◌, ◌*◌}
 use lib.ListN.{length, take, drop}
 use Rattle.lists.specs.Put.{put}
 use Rattle.text.specs.Literal.{escapes}

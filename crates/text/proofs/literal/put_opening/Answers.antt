@@ -6,8 +6,8 @@ use Rattle.text.proofs.literal.put_opening.Goals as goal
 
 pub returns-then-wide : goal.returns-then-wide
 unfolding opening
-returns-then-wide c = let p = c.put_bytes.ensures in simp c.if-wide.true (record { count = (p.count, omega arith); text = p.text })
+returns-then-wide c = let p = c.put_slice.ensures in simp c.if-wide.true (record { count = (p.count, omega arith); text = p.text })
 
 pub returns : goal.returns
 unfolding opening
-returns c = let p = c.put_bytes-2.ensures in simp c.if-wide.false (record { count = (p.count, omega arith); text = p.text })
+returns c = let p = c.put_slice-2.ensures in simp c.if-wide.false (record { count = (p.count, omega arith); text = p.text })

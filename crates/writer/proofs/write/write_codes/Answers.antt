@@ -69,8 +69,8 @@ write_token-r-requires c = let a = c.args in
     let l = c.loop-i in
     let g = c.if-what-ge7.false in record {
       c_bound = g;
-      fits = fits_lines a.tables.now a.rec.now (get_or a.codes.now l.i 0) (c.u64_in.result) l.text l.ends l.kinds l.r (length l.lines) g
-          (room_at a.tables.now a.rec.now a.codes.now l.i (c.u64_in.result) c.loop-i-test.true c.u64_in.ensures.0 (length l.text) (length l.ends) (length l.kinds) (length l.lines) l.r l.invariant.5);
+      fits = fits_lines a.tables.now a.rec.now (get_or a.codes.now l.i 0) (c.element_or.result) l.text l.ends l.kinds l.r (length l.lines) g
+          (room_at a.tables.now a.rec.now a.codes.now l.i (c.element_or.result) c.loop-i-test.true c.element_or.ensures (length l.text) (length l.ends) (length l.kinds) (length l.lines) l.r l.invariant.5);
     }
 
 pub loop-i-preserved : goal.loop-i-preserved
@@ -78,7 +78,7 @@ loop-i-preserved c =
     let h = c.loop-i-test.true in
     let l = c.loop-i in
     let w = c.write_token-r in
-    let v = c.u64_in.ensures.0 in
+    let v = c.element_or.ensures in
     let n = c.width-i.ensures in (
       w.auto.text ∙ l.invariant.0,
       w.auto.ends ∙ l.invariant.1,

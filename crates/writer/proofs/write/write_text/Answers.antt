@@ -7,10 +7,10 @@ use Rattle.writer.proofs.TextLaws.{told, room}
 use Rattle.writer.proofs.write.write_text.Goals as goal
 
 pub returns-then-what-eq0 : goal.returns-then-what-eq0
-returns-then-what-eq0 c = let held = told _ _ _ _ _ (text_table _ _ _ _ c.if-what-eq0.true ∙ sym c.part.ensures.0) c.put_bytes.ensures.count c.put_bytes.ensures.text in record { count = held.0; text = held.1 }
+returns-then-what-eq0 c = let held = told _ _ _ _ _ (text_table _ _ _ _ c.if-what-eq0.true ∙ sym c.part.ensures.0) c.put_slice.ensures.count c.put_slice.ensures.text in record { count = held.0; text = held.1 }
 
 pub returns-then-what-eq1 : goal.returns-then-what-eq1
-returns-then-what-eq1 c = let held = told _ _ _ _ _ (text_record _ _ _ _ c.if-what-eq1.true ∙ sym c.part-then-what-eq1.ensures.0) c.put_bytes-then-what-eq1.ensures.count c.put_bytes-then-what-eq1.ensures.text in record { count = held.0; text = held.1 }
+returns-then-what-eq1 c = let held = told _ _ _ _ _ (text_record _ _ _ _ c.if-what-eq1.true ∙ sym c.part-then-what-eq1.ensures.0) c.put_slice-then-what-eq1.ensures.count c.put_slice-then-what-eq1.ensures.text in record { count = held.0; text = held.1 }
 
 pub write_num-requires : goal.write_num-requires
 write_num-requires c = room _ _ _ (text_number _ _ _ _ c.if-what-eq2.true) c.requires
