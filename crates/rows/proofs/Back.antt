@@ -23,6 +23,7 @@ use Rattle.rows.specs.Lists.{Lists, lists_of, values_of, Leaves}
 use Rattle.std.specs.Prelude.{Ok}
 use Rattle.std.specs.declared.result.Result.{Result}
 use Rattle.lists.specs.declared.question.Question.{Question}
+use Rattle.rows.specs.declared.answer.Sizes.{Sizes}
 use Rattle.rows.specs.Rows.{Row, is_addressed, indent_of, row_at, rows_in, all_tokens, token_counts, mark_of, row_lists, token_held, row_held, sizes_within, holds_rows}
 
 -- as many as there are rows
