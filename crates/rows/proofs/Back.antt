@@ -20,10 +20,10 @@ use Rattle.tokens.proofs.Lines.{first, behind, tokens_back, line_first}
 use Rattle.tokens.proofs.ListingLaws.{ends_length, kinds_length}
 use Rattle.tokens.proofs.Fit.{fit_token, Fit, none, behind as fit-behind}
 use Rattle.rows.specs.Lists.{Lists, lists_of, values_of, Leaves}
-use Rattle.std.specs.Prelude.{Ok}
 use Rattle.std.specs.declared.result.Result.{Result}
 use Rattle.lists.specs.declared.question.Question.{Question}
 use Rattle.rows.specs.declared.answer.Sizes.{Sizes}
+use Rattle.rows.proofs.Listed.{values_are}
 use Rattle.rows.specs.Rows.{Row, is_addressed, indent_of, row_at, rows_in, all_tokens, token_counts, mark_of, row_lists, token_held, row_held, sizes_within, holds_rows}
 
 -- as many as there are rows
@@ -239,4 +239,4 @@ pub leaves_rows : (rs : List Row) (b a : Lists) (r : Result Sizes Question) → 
 unfolding row_lists
 leaves_rows rs b a r v g =
     let begun = begins rs b a r v in
-    rw (v.answer, ends_length, length-map) (rows_hold rs a begun g, rows_back rs a begun g)
+    rw (values_are _ r v.answer, ends_length, length-map) (rows_hold rs a begun g, rows_back rs a begun g)

@@ -7,13 +7,19 @@ use native.Mathlib.Omega.{arith}
 use lib.ListN.{length, take, drop}
 use lib.Seq.{take-append_seam}
 use borrow.Author.Tests.{le-leb}
-use Rattle.rows.specs.Lists.{Lists, cut, room_no, sizes_of, left, Leaves}
+use Rattle.rows.specs.Lists.{Lists, cut, room_no, sizes_of, values_of, left, Leaves}
 use Rattle.rows.specs.declared.answer.Sizes.{Sizes}
 use Rattle.rows.specs.declared.answer.Rooms.{Rooms}
-use Rattle.std.specs.Prelude.{Ok}
+use Rattle.std.specs.Prelude.{Ok, Err}
 use Rattle.std.specs.declared.result.Result.{Result}
-use Rattle.lists.proofs.Answered.{value_is}
+use Rattle.lists.proofs.Answered.{value_is, number_some}
+use Rattle.lists.specs.Question.{Answers}
 use Rattle.lists.specs.declared.question.Question.{Question}
+
+-- with the number 0 the sizes are those of the answer
+pub values_are : (z : Sizes) (r : Result Sizes Question) → Answers 0 z r → values_of r ≡ z
+values_are z (Ok y) v = v.1
+values_are z (Err q) v = let k = number_some q in absurd (omega (arith, v))
 
 -- questions 12 to 14 get a yes
 pub suffice : (z : Sizes) (r : Rooms) → z.text ≤ r.text → z.tokens ≤ r.ends → z.tokens ≤ r.kinds → z.lines ≤ r.addresses → z.lines ≤ r.marks → z.lines ≤ r.places → z.lines ≤ r.lines
