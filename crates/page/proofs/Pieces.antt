@@ -15,6 +15,7 @@ use Rattle.lists.specs.PutLaws.{put_append, put_cons, put_none, put_fits}
 use Rattle.text.specs.Number.{hex_text}
 use Rattle.text.specs.NumberLaws.{hex_64}
 use Rattle.text.specs.Decimal.{decimal_text}
+use Rattle.rows.specs.Lists.{Lists}
 use Rattle.page.specs.Page.{lf, numbered, address_text, line_of, count_line, tokens_end, lines_end, line_bytes, line_text, lines_text, page_text}
 
 -- what is stored from `at` on, and where it ends
@@ -140,9 +141,9 @@ left_turn at₀ all e s t out out' at at' l p h =
       end = omega (arith, l.end, length-append s t);
     }
 
-module _ (text ends lines addresses marks : List ℕ) where
+module _ (l : Lists) where
   abbrev lines_from : ℕ → ℕ → List ℕ
-  lines_from = lines_text text ends lines addresses marks
+  lines_from = lines_text l
 
   -- lines, and those behind them
   pub lines_append : (i a b : ℕ) → lines_from i (a + b) ≡ lines_from i a ++ lines_from (i + a) b
@@ -151,8 +152,8 @@ module _ (text ends lines addresses marks : List ℕ) where
   lines_append i (suc a) b =
       let d : suc a + b ≡ suc (a + b) = omega arith in
       let k : suc i + a ≡ i + suc a = omega arith in
-      let l = line_text text ends lines addresses marks i in
-      rw d (ap (λ (t : List ℕ). l ++ t) (lines_append (suc i) a b ∙ rw k) ∙ sym (append_assoc l (lines_from (suc i) a) (lines_from (i + suc a) b)))
+      let first = line_text l i in
+      rw d (ap (λ (t : List ℕ). first ++ t) (lines_append (suc i) a b ∙ rw k) ∙ sym (append_assoc first (lines_from (suc i) a) (lines_from (i + suc a) b)))
 
   -- of the lines from i up to last those from j on, when the list is as `out` and the text so far ends at `at`
   abbrev pub Ahead : ℕ → ℕ → ℕ → List ℕ → ℕ → ℕ → List ℕ → Type 0
@@ -162,27 +163,28 @@ module _ (text ends lines addresses marks : List ℕ) where
     pub lines_start : (at : ℕ) (e : List ℕ) → Ahead i last at e i at e
     lines_start at e = record { text = refl; end = refl }
 
-    pub lines_turn : (at₀ : ℕ) (e : List ℕ) (j start k end mark address at at' : ℕ) (s out out' : List ℕ) → j < last → start ≡ lines_end ends lines j → k ≡ get_or lines j 0 → end ≡ tokens_end ends k
-        → s ≡ slice start end text → mark ≡ get_or marks j 0 → address ≡ get_or addresses j 0 → at' ≡ at + length (line_of mark address s) → out' ≡ put at (line_of mark address s) out
+    -- x is the same listing, as its lists were lent
+    pub lines_turn : (x : Lists) → x ≡ l → (at₀ : ℕ) (e : List ℕ) (j start k end mark address at at' : ℕ) (s out out' : List ℕ) → j < last → start ≡ lines_end l.ends l.lines j → k ≡ get_or x.lines j 0 → end ≡ tokens_end x.ends k
+        → s ≡ slice start end x.text → mark ≡ get_or x.marks j 0 → address ≡ get_or x.addresses j 0 → at' ≡ at + length (line_of mark address s) → out' ≡ put at (line_of mark address s) out
         → Ahead i last at₀ e j at out → Ahead i last at₀ e (j + 1) at' out'
     unfolding lines_text
-    lines_turn at₀ e j start k end mark address at at' s out out' h a b c d f g m p l =
+    lines_turn x is at₀ e j start k end mark address at at' s out out' h a b c d f g m p q =
         let v : last - j ≡ suc (last - suc j) = omega arith in
         let w : suc j ≡ j + 1 = omega arith in
-        let q : s ≡ line_bytes text ends lines addresses marks j = d ∙ rw (c, b, a) in
-        let here : Left at₀ (lines_from i (last - i)) e at (line_of mark address s ++ lines_from (j + 1) (last - (j + 1))) out = rw (f, g, q, ← w) (rw v at l) in
+        let bytes : s ≡ line_bytes l j = d ∙ rw (is, c, b, a, is) in
+        let here : Left at₀ (lines_from i (last - i)) e at (line_of mark address s ++ lines_from (j + 1) (last - (j + 1))) out = rw (f, g, is, bytes, ← w) (rw v at q) in
         left_turn at₀ (lines_from i (last - i)) e (line_of mark address s) (lines_from (j + 1) (last - (j + 1))) out out' at at' here p m
 
     pub lines_done : (at₀ : ℕ) (e : List ℕ) (k j at : ℕ) (out : List ℕ) → last ≡ i + k → last ≤ j → Ahead i last at₀ e j at out → Puts at₀ (lines_from i k) at e out
     unfolding lines_text
-    lines_done at₀ e k j at out q h l =
+    lines_done at₀ e k j at out q h r =
         let d : last - j ≡ 0 = omega arith in
         let n : last - i ≡ k = omega arith in
-        let r : Left at₀ (lines_from i k) e at [] out = rw (d, n) at l in
-        record { text = sym (put_none at out) ∙ r.text; end = omega (arith, r.end) }
+        let all : Left at₀ (lines_from i k) e at [] out = rw (d, n) at r in
+        record { text = sym (put_none at out) ∙ all.text; end = omega (arith, all.end) }
 
   -- ---- the page
   pub page_puts : (n at r : ℕ) (e e₁ e₂ : List ℕ) → at ≡ length (count_line n) → e₁ ≡ put 0 (count_line n) e → r ≡ at + length (lines_from 0 n) → e₂ ≡ put at (lines_from 0 n) e₁
-      → Puts 0 (page_text text ends lines addresses marks n) r e e₂
+      → Puts 0 (page_text l n) r e e₂
   unfolding page_text
   page_puts n at r e e₁ e₂ k p h q = puts_then 0 at r (count_line n) (lines_from 0 n) e e₁ e₂ (record { text = p; end = omega arith }) q h
