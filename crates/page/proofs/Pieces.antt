@@ -3,15 +3,17 @@
 use mathlib.Core.Path.{◌≡◌, refl, sym, ap, ◌∙◌}
 use mathlib.Core.Bool.{true}
 use mathlib.Core.List.{List, [], ◌∷◌, ◌++◌, append_assoc}
-use Prim.Native.Nat.{ℕ, zero, suc, ◌+◌, ◌-◌, ◌*◌, ◌%◌, ◌^◌, ◌≤◌, ◌<◌}
+use Prim.Native.Nat.{ℕ, zero, suc, ◌+◌, ◌-◌, ◌*◌, ◌%◌, ◌^◌, ◌≤◌, ◌<◌, min}
 use native.Mathlib.Nat.{add-zero, zero-add}
-use native.Mathlib.Decide.{dec_lt}
+use native.Mathlib.Decide.{dec_lt, dec_le}
 use native.Mathlib.Omega.{arith}
 use borrow.Author.Tests.{lt-ltb, le-ltb}
-use lib.ListN.{length, get_or, take, drop, set, replicate, length-append, length-replicate, length-take}
-use lib.Seq.{slice, take-append_seam}
+use lib.ListN.{length, get_or, take, drop, set, replicate, length-append, length-replicate, length-take, length-drop, take-append-drop}
+use lib.Seq.{slice, take-append_seam, drop-drop}
+use borrow.Rule.Slice.PartMut.{mid_of, put_mid}
+use Rattle.std.proofs.lemmas.List.{replicate-append-replicate}
 use Rattle.lists.specs.Put.{put}
-use Rattle.lists.specs.PutLaws.{put_append, put_cons, put_none, put_fits}
+use Rattle.lists.specs.PutLaws.{put_append, put_cons, put_none, put_fits, put_length, put_past}
 use Rattle.text.specs.Number.{hex_text}
 use Rattle.text.specs.NumberLaws.{hex_64}
 use Rattle.text.specs.Decimal.{decimal_text}
@@ -48,22 +50,38 @@ numbered_puts word e e₁ e₂ e₃ n w end h p k q r =
     puts_then 0 end (end + 1) (word ++ decimal_text n) lf e e₂ e₃ (puts_then 0 w end word (decimal_text n) e e₁ e₂ first q k) (put_one end 10 e₂ e₃ r) refl
 
 -- ---- the same byte n times
-module _ (at n b : ℕ) where
-  pub run_start : (e : List ℕ) → put (at + 0) (replicate (n - 0) b) e ≡ put at (replicate n b) e
-  run_start e =
-      let d : n - 0 ≡ n = omega arith in
-      rw (add-zero, d)
+-- the part of a list that is filled: from m, which is `at` kept within the list, to k, which is at + n kept within it
+module _ (at n b m k : ℕ) (e : List ℕ) (p : m ≡ min at (length e)) (q : k ≡ min (at + n) (length e)) where
+  abbrev run : ℕ → List ℕ
+  run j = replicate j b
 
-  pub run_turn : (i : ℕ) (e e' r : List ℕ) → i < n → e' ≡ set e (at + i) b → put (at + i) (replicate (n - i) b) e ≡ r → put (at + (i + 1)) (replicate (n - (i + 1)) b) e' ≡ r
-  run_turn i e e' r h p q =
-      let d : n - i ≡ suc (n - (i + 1)) = omega arith in
-      let k : at + (i + 1) ≡ at + i + 1 = omega arith in
-      rw (k, p) (sym (put_cons (at + i) b (replicate (n - (i + 1)) b) e) ∙ rw d at q)
+  -- what is past the list is not stored
+  cut : put at (run n) e ≡ put at (run (k - m)) e
+  cut =
+      let s : k - m + (n - (k - m)) ≡ n = omega (arith, p, q) in
+      let parts : run n ≡ run (k - m) ++ run (n - (k - m)) = sym (replicate-append-replicate (k - m) (n - (k - m)) b ∙ ap run s) in
+      ap (λ (t : List ℕ). put at t e) parts ∙ put_append at (run (k - m)) (run (n - (k - m))) e
+      ∙ elim (dec_le (at + n) (length e)) [
+        | yes a ↦ let z : n - (k - m) ≡ 0 = omega (arith, p, q) in rw z (put_none _ _)
+        | no a ↦ put_past (at + length (run (k - m))) (run (n - (k - m))) (put at (run (k - m)) e) (omega (arith, p, q, put_length at (run (k - m)) e, length-replicate {A = ℕ} (k - m) b))
+      ]
 
-  pub run_done : (i : ℕ) (e r : List ℕ) → n ≤ i → put (at + i) (replicate (n - i) b) e ≡ r → e ≡ r
-  run_done i e r h q =
-      let d : n - i ≡ 0 = omega arith in
-      sym (put_none (at + i) e) ∙ rw d at q
+  stored : put_mid m (k - m) e (run (k - m)) ≡ put at (run (k - m)) e
+  stored =
+      elim (dec_le at (length e)) [
+        | yes a ↦
+            let same : m ≡ at = omega (arith, p) in
+            rw same (sym (put_fits at (run (k - at)) e (omega (arith, p, q, length-replicate {A = ℕ} (k - at) b))
+            ∙ rw (length-replicate {A = ℕ} (k - at) b, ← drop-drop (k - at) at e, append_assoc (take at e) (run (k - at)) (drop (k - at) (drop at e)))))
+        | no a ↦
+            let none : k - m ≡ 0 = omega (arith, p, q) in
+            rw (none, put_none, take-append-drop)
+      ]
+
+  pub filled : (r : List ℕ) → r ≡ run (length (mid_of m (k - m) e)) → put_mid m (k - m) e r ≡ put at (run n) e
+  filled r f =
+      let all : length (mid_of m (k - m) e) ≡ k - m = omega (arith, p, q, length-take (k - m) (drop m e), length-drop m e) in
+      rw (f, all) (stored ∙ sym cut)
 
 -- ---- a line
 module _ (mark address : ℕ) where
