@@ -1,6 +1,6 @@
 // The seven lists of a listing, lent to be read: a contract sees them as one record.
 ghost use Rattle.std.specs.Prelude.{◌≡◌};
-ghost use Rattle.rows.specs.Lists.{Lists, lists_of, rooms_of};
+ghost use Rattle.rows.specs.Lists.{Lists, lists_of, rooms_of, NumbersFit};
 
 use crate::answer::Rooms;
 use std::marker::Model;
@@ -22,7 +22,35 @@ impl<'a> Model for Listing<'a> {
     ghost view = { λ l. lists_of l.text.now l.ends.now l.kinds.now l.addresses.now l.marks.now l.places.now l.lines.now };
 }
 
+// What the lists' types say of their numbers. It is a call for the proofs alone, which do not see it of a list behind a field: nothing is done.
+fn numbers_fit(
+    text: &[u8],
+    ends: &[u32],
+    kinds: &[u8],
+    addresses: &[u64],
+    marks: &[u16],
+    places: &[u16],
+    lines: &[u32],
+)
+    ensures { NumbersFit (lists_of text.now ends.now kinds.now addresses.now marks.now places.now lines.now) }
+{}
+
 impl<'a> Listing<'a> {
+    // The numbers of the lists fit their types.
+    pub fn numbers_fit(&self)
+        ensures { NumbersFit self.now }
+    {
+        numbers_fit(
+            self.text,
+            self.ends,
+            self.kinds,
+            self.addresses,
+            self.marks,
+            self.places,
+            self.lines,
+        );
+    }
+
     // How long each list is.
     pub fn rooms(&self) -> Rooms
         ensures { result ≡ rooms_of self.now }
