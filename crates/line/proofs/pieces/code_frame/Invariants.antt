@@ -1,5 +1,6 @@
 -- `pieces::code_frame` meets its contract.
 -- The invariant: the pieces coded and those left are all of them; each way through a turn codes its piece.
+use Rattle.codes.specs.Tables.{table_bytes}
 use mathlib.Core.Logic.{⊎_elim}
 use mathlib.Core.Path.{◌≡◌, refl, ◌∙◌}
 use mathlib.Core.List.{map}
@@ -16,7 +17,7 @@ use Rattle.line.proofs.CodedTurns.{met}
 use Rattle.line.proofs.PieceTokens.{is_word, row_step, row_done, row_all}
 use Rattle.line.proofs.pieces.code_frame.Given as goal
 
-abbrev pub invariant-loop-i : goal.invariant-loop-i
-invariant-loop-i l =
-    (length l.codes ≡ length l.initial.codes) × (l.i ≤ length l.pieces)
-    × Sofar l.tables l.rec l.initial.codes l.codes (pieces_tokens l.h l.rec l.site (map piece_of (drop 0 l.pieces))) (pieces_tokens l.h l.rec l.site (map piece_of (drop l.i l.pieces)))
+abbrev pub invariant-loop-piece : goal.invariant-loop-piece
+invariant-loop-piece l =
+    (length l.codes ≡ length l.initial.codes) × (l.piece-index ≤ length l.pieces)
+    × Sofar table_bytes l.rec l.initial.codes l.codes (pieces_tokens l.h l.rec l.site (map piece_of (drop 0 l.pieces))) (pieces_tokens l.h l.rec l.site (map piece_of (drop l.piece-index l.pieces)))
