@@ -1,14 +1,11 @@
 -- `asm::code_operands` meets its contract.
 -- The invariant: the operands coded and those left are all of them.
 use Rattle.codes.specs.Tables.{table_bytes}
-use mathlib.Core.Path.{◌≡◌, refl}
-use Prim.Native.Nat.{◌≤◌, ◌-◌}
-use native.Mathlib.Omega.{arith}
+use mathlib.Core.Path.{◌≡◌}
+use Prim.Native.Nat.{◌≤◌}
 use lib.ListN.{length}
-use Rattle.codes.proofs.Coding.{coded_none}
-use Rattle.operand.proofs.Tokens.{as_tokens}
-use Rattle.expressions.proofs.Turns.{Sofar, at_start, further, at_end}
-use Rattle.line.proofs.Names.{operands_left, operand_step, operands_done, operands_all}
+use Rattle.expressions.proofs.Turns.{Sofar}
+use Rattle.line.proofs.Names.{operands_left}
 use Rattle.line.proofs.asm.code_operands.Given as goal
 
 abbrev pub invariant-loop-i : goal.invariant-loop-i

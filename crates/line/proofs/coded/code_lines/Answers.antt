@@ -1,14 +1,9 @@
 -- `coded::code_lines` meets its contract.
 -- The invariant: the lines coded and those left, printed with the registers written before them, are all of them.
-use mathlib.Core.Path.{◌≡◌, refl}
-use mathlib.Core.List.{map}
-use Prim.Native.Nat.{◌≤◌, ◌-◌}
+use mathlib.Core.Path.{refl}
 use native.Mathlib.Omega.{arith}
-use lib.ListN.{length, drop}
 use Rattle.codes.proofs.CodedLines.{lines_none}
-use Rattle.line.specs.Lines.{line_in}
-use Rattle.line.specs.Print.{printed}
-use Rattle.line.proofs.CodedTurns.{LinesSofar, at_first, next_line, at_last, printed_step, printed_done}
+use Rattle.line.proofs.CodedTurns.{at_first, next_line, at_last, printed_step, printed_done}
 use borrow.Author.Rules.{rules}
 use Rattle.line.proofs.coded.code_lines.Goals as goal
 

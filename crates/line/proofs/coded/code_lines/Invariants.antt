@@ -1,15 +1,13 @@
 -- `coded::code_lines` meets its contract.
 -- The invariant: the lines coded and those left, printed with the registers written before them, are all of them.
 use Rattle.codes.specs.Tables.{table_bytes}
-use mathlib.Core.Path.{◌≡◌, refl}
+use mathlib.Core.Path.{◌≡◌}
 use mathlib.Core.List.{map}
-use Prim.Native.Nat.{◌≤◌, ◌-◌}
-use native.Mathlib.Omega.{arith}
+use Prim.Native.Nat.{◌≤◌}
 use lib.ListN.{length, drop}
-use Rattle.codes.proofs.CodedLines.{lines_none}
 use Rattle.line.specs.Lines.{line_in}
 use Rattle.line.specs.Print.{printed}
-use Rattle.line.proofs.CodedTurns.{LinesSofar, at_first, next_line, at_last, printed_step, printed_done}
+use Rattle.line.proofs.CodedTurns.{LinesSofar}
 use Rattle.line.proofs.coded.code_lines.Given as goal
 
 abbrev pub invariant-loop-code : goal.invariant-loop-code

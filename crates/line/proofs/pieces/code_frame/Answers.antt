@@ -1,17 +1,15 @@
 -- `pieces::code_frame` meets its contract.
 -- The invariant: the pieces coded and those left are all of them; each way through a turn codes its piece.
 use Rattle.codes.specs.Tables.{table_bytes}
-use mathlib.Core.Path.{◌≡◌, refl, ◌∙◌}
-use mathlib.Core.List.{map}
-use Prim.Native.Nat.{◌≤◌, ◌-◌}
+use mathlib.Core.Path.{◌≡◌, refl}
 use native.Mathlib.Omega.{arith}
-use lib.ListN.{length, drop, get_or}
+use lib.ListN.{length, get_or}
 use Rattle.codes.specs.Coded.{Coded}
 use Rattle.codes.proofs.Coding.{coded_none}
 use Rattle.operand.proofs.Tokens.{as_tokens}
-use Rattle.expressions.proofs.Turns.{Sofar, at_start, further, at_end}
+use Rattle.expressions.proofs.Turns.{at_start, further, at_end}
 use Rattle.line.specs.Codes.{piece_of}
-use Rattle.line.specs.Print.{piece_tokens, pieces_tokens}
+use Rattle.line.specs.Print.{piece_tokens}
 use Rattle.line.proofs.CodedTurns.{met}
 use Rattle.line.proofs.PieceTokens.{is_word, row_step, row_done, row_all}
 use borrow.Author.Rules.{rules}
