@@ -150,7 +150,7 @@ module _ (bits frame : ℕ) (bodies : List ℕ) (first k : ℕ) where
     back_stop l p =
         let rest = pushes_back bits frame bodies first (k - 1 - first) in
         let none : pick (is_unskipped bits frame bodies 23 (k - 1)) [] (pick (is_unskipped bits frame bodies 21 (k - 1)) ((k - 1) ∷ rest) rest) ≡ [] =
-            rw (call_of (is_unskipped bits frame bodies 23 (k - 1)) (is_unskipped bits frame bodies 21 (k - 1)) p) in
+        rw (call_of (is_unskipped bits frame bodies 23 (k - 1)) (is_unskipped bits frame bodies 21 (k - 1)) p) in
         ap (pushed h s comma) (back_step l ∙ none)
 
     pub back_over : first < k → Is Neither → pushed h s comma (pushes_back bits frame bodies first (k - first)) ≡ pushed h s comma (pushes_back bits frame bodies first (k - 1 - first))
