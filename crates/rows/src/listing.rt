@@ -1,8 +1,9 @@
 // The seven lists of a listing, lent to be read: a contract sees them as one record.
 ghost use Rattle.std.specs.Prelude.{◌≡◌};
-ghost use Rattle.rows.specs.Lists.{Lists, lists_of, rooms_of, NumbersFit};
+ghost use Rattle.rows.specs.Lists.{Lists, lists_of, rooms_of, cut, NumbersFit};
 
-use crate::answer::Rooms;
+use crate::answer::{Rooms, Sizes};
+use lists::parts::part;
 use std::marker::Model;
 
 #[derive(Drop)]
@@ -63,6 +64,20 @@ impl<'a> Listing<'a> {
             marks: self.marks.len(),
             places: self.places.len(),
             lines: self.lines.len(),
+        }
+    }
+    // The first entries of the lists, as many as the sizes say.
+    pub fn cut(&self, sizes: Sizes) -> Listing<'a>
+        ensures { result ≡ cut self.now sizes }
+    {
+        Listing {
+            text: part(self.text, 0, sizes.text),
+            ends: part(self.ends, 0, sizes.tokens),
+            kinds: part(self.kinds, 0, sizes.tokens),
+            addresses: part(self.addresses, 0, sizes.lines),
+            marks: part(self.marks, 0, sizes.lines),
+            places: part(self.places, 0, sizes.lines),
+            lines: part(self.lines, 0, sizes.lines),
         }
     }
 }
