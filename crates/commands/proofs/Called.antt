@@ -1,6 +1,6 @@
 -- The call `command_table`: a refusal with 19, 16 or 12 to 14, and the table.
 -- By the questions in turn; what is stored from the start on, where it fits, is the table and what lay past it.
-use mathlib.Core.Path.{◌≡◌, refl, sym, ◌∙◌}
+use mathlib.Core.Path.{◌≡◌, refl, ◌∙◌}
 use mathlib.Core.Bool.{Bool, true, false, ◌&&◌, ◌||◌, not}
 use mathlib.Core.List.{List, [], ◌∷◌}
 use Prim.Native.Nat.{ℕ, zero, suc, ◌^◌, ◌≤◌, ◌<◌}
@@ -15,7 +15,6 @@ use Rattle.lists.specs.PutLaws.{put_fits}
 use Rattle.rows.specs.Lists.{Lists, NumbersFit, over}
 use Rattle.rows.specs.Rows.{holds_rows}
 use Rattle.rows.specs.declared.answer.Sizes.{Sizes}
-use Rattle.rows.proofs.Held.{held}
 use Rattle.csv_rows.specs.Format.{some}
 use Rattle.csv_rows.proofs.Calls as writing
 use Rattle.commands.specs.Table.{Entry, entries_from, Table, table_of}
@@ -53,9 +52,9 @@ room_all x n b r a h =
     let k = asked 13 (leb n a) 0 g.1 in
     (leb-true x b f.0, leb-true n r g.0, leb-true n a k.0)
 
--- there is an end for each line, and few of them
-pub lines_few : (l : Lists) (z : Sizes) → true ≡ holds_rows l z.text z.tokens z.lines → NumbersFit l → (z.lines ≤ length l.lines) × (z.lines < 2 ^ 32)
-lines_few l z h w = ((held l z.text z.tokens z.lines (sym h)).room.lines, (writing.few l z [] h w).2)
+-- there are few lines
+pub lines_few : (l : Lists) (z : Sizes) → true ≡ holds_rows l z.text z.tokens z.lines → NumbersFit l → z.lines < 2 ^ 32
+lines_few l z h w = (writing.few l z [] h w).2
 
 -- what is stored from the start on, where there is room
 stored : (t e : List ℕ) → length t ≤ length e → put 0 t e ≡ over t e

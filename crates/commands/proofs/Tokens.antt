@@ -15,12 +15,12 @@ use Rattle.rows.specs.Rows.{row_at}
 use Rattle.commands.specs.Calls.{token_of}
 
 -- ---- token k of line i, whose tokens are those from n up to o
-module _ (l : Lists) (i k n o : ℕ) (g : n ≡ end_at l.lines i) (h : o ≡ end_at l.lines (i + 1)) where
+module _ (l : Lists) (i k n o : ℕ) (g : n ≡ end_at l.lines i) (h : o ≡ get_or l.lines i 0) where
   abbrev here : Token
   here = token_of (row_at l i) k
 
   last : get_or l.lines i 0 ≡ o
-  last = ap (end_at l.lines) (sym (add-one i)) ∙ sym h
+  last = sym h
 
   token_in : k < o - n → here ≡ token_at l.text l.ends l.kinds (n + k)
   unfolding row_at line_at

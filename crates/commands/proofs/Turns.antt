@@ -19,25 +19,23 @@ use Rattle.commands.proofs.Entries.{entry_of, entries_call, entries_other}
 use Rattle.commands.proofs.Told.{rows_count, bytes_few}
 
 -- ---- how far: line i of m, with n rows and x bytes before it
-pub record Going (m i n x : ℕ) (lines found : List ℕ) : Type 0 where
+pub record Going (m i n x : ℕ) (found : List ℕ) : Type 0 where
   pub within : i ≤ m
   pub few_rows : n ≤ i
   pub few_bytes : x ≤ 80 * i
-  pub lines_room : m ≤ length lines
   pub few_lines : m < 2 ^ 32
   pub array : length found ≡ 80
 
-pub going_start : (m : ℕ) (lines found : List ℕ) → (m ≤ length lines) × (m < 2 ^ 32) → length found ≡ 80 → Going m 0 0 0 lines found
-going_start m lines found h e = record { within = omega arith; few_rows = omega arith; few_bytes = omega arith; lines_room = h.0; few_lines = h.1; array = e }
+pub going_start : (m : ℕ) (found : List ℕ) → m < 2 ^ 32 → length found ≡ 80 → Going m 0 0 0 found
+going_start m found h e = record { within = omega arith; few_rows = omega arith; few_bytes = omega arith; few_lines = h; array = e }
 
-pub going_on : {m i n x : ℕ} {lines found found' : List ℕ} → Going m i n x lines found → i < m → (k y : ℕ) → k ≤ n + 1 → y ≤ x + 80 → length found' ≡ length found
-    → Going m (i + 1) k y lines found'
+pub going_on : {m i n x : ℕ} {found found' : List ℕ} → Going m i n x found → i < m → (k y : ℕ) → k ≤ n + 1 → y ≤ x + 80 → length found' ≡ length found
+    → Going m (i + 1) k y found'
 going_on w h k y a b e =
     record {
       within = omega arith;
       few_rows = omega (arith, w.few_rows);
       few_bytes = omega (arith, w.few_bytes);
-      lines_room = w.lines_room;
       few_lines = w.few_lines;
       array = e ∙ w.array;
     }

@@ -1,5 +1,5 @@
 // A line's tokens, and what the line is: a call line, a call by a name, a line that begins with a register.
-ghost use Rattle.std.specs.Prelude.{◌≡◌, ◌<◌, length};
+ghost use Rattle.std.specs.Prelude.{◌≡◌};
 ghost use Rattle.rows.specs.Rows.{row_at};
 ghost use Rattle.commands.specs.Calls.{token_of, is_call, calls_to, begins_with};
 
@@ -11,11 +11,10 @@ use rows::listing::Listing;
 
 // The kind of token k of line i; 0 if the line has no such token.
 pub fn kind_of(l: &Listing<'_>, i: usize, k: usize) -> u8
-    requires { i < length l.now.lines }
     ensures { result ≡ (token_of (row_at l.now i) k).kind }
 {
     let n = end_at(l.lines, i);
-    let e = end_at(l.lines, i + 1);
+    let e = element_or(l.lines, i, 0) as usize;
     if k < e.saturating_sub(n) {
         return u8_at(l.kinds, n + k);
     }
@@ -24,11 +23,10 @@ pub fn kind_of(l: &Listing<'_>, i: usize, k: usize) -> u8
 
 // The text of token k of line i; empty if the line has no such token.
 pub fn text_of<'a>(l: &Listing<'a>, i: usize, k: usize) -> &'a [u8]
-    requires { i < length l.now.lines }
     ensures { result.now ≡ (token_of (row_at l.now i) k).bytes }
 {
     let n = end_at(l.lines, i);
-    let e = end_at(l.lines, i + 1);
+    let e = element_or(l.lines, i, 0) as usize;
     if k < e.saturating_sub(n) {
         let j = n + k;
         return text_between(l.text, end_at(l.ends, j), end_at(l.ends, j + 1));
@@ -39,7 +37,6 @@ pub fn text_of<'a>(l: &Listing<'a>, i: usize, k: usize) -> &'a [u8]
 // Whether line i is a call line.
 #[tactic(auto, using(crate::proofs::Asked::other_kinds))]
 pub fn is_call(l: &Listing<'_>, i: usize) -> bool
-    requires { i < length l.now.lines }
     ensures { result ≡ is_call (row_at l.now i) }
 {
     if element_or(l.marks, i, 0) < 256 {
@@ -54,7 +51,6 @@ pub fn is_call(l: &Listing<'_>, i: usize) -> bool
 // Whether line i is a call line by this name.
 #[tactic(auto, using(crate::proofs::Asked::calls_told, crate::proofs::Asked::calls_none, crate::proofs::Same::same_pointwise))]
 pub fn calls_to(l: &Listing<'_>, call: &[u8], i: usize) -> bool
-    requires { i < length l.now.lines }
     ensures { result ≡ calls_to call.now (row_at l.now i) }
 {
     if is_call(l, i) {
@@ -66,7 +62,6 @@ pub fn calls_to(l: &Listing<'_>, call: &[u8], i: usize) -> bool
 // Whether line i begins with this register.
 #[tactic(auto, using(crate::proofs::Asked::begins_told, crate::proofs::Asked::begins_none, crate::proofs::Same::same_pointwise))]
 pub fn begins_with(l: &Listing<'_>, register: &[u8], i: usize) -> bool
-    requires { i < length l.now.lines }
     ensures { result ≡ begins_with register.now (row_at l.now i) }
 {
     if kind_of(l, i, 0) == 1 {

@@ -1,5 +1,5 @@
 // The bytes that are set for a call: the search back over the earlier lines of its block, and the literal found there.
-ghost use Rattle.std.specs.Prelude.{◌≡◌, ◌<◌, ◌≤◌, length};
+ghost use Rattle.std.specs.Prelude.{◌≡◌, ◌≤◌, length};
 ghost use Rattle.tokens.specs.Token.{token};
 ghost use Rattle.rows.specs.Rows.{row_at};
 ghost use Rattle.commands.specs.Literals.{string_of};
@@ -15,7 +15,6 @@ use strings::reading::read_literal;
 // The line that sets the register for the call on line k.
 #[tactic(auto, using(crate::proofs::Search::search_start, crate::proofs::Search::search_end, crate::proofs::Search::search_other, crate::proofs::Search::search_call, crate::proofs::Search::search_found, crate::proofs::Search::search_further))]
 fn line_before(l: &Listing<'_>, register: &[u8], k: usize) -> Option<usize>
-    requires { k < length l.now.lines }
     ensures { result ≡ line_before l.now register.now (row_at l.now k).place k }
 {
     let p = element_or(l.places, k, 0);
@@ -50,7 +49,7 @@ fn read_string(kind: u8, text: &[u8], out: &mut [u8]) -> Option<usize>
 
 // How many bytes line i sets its first token to, from the start of `out` on.
 fn set_by(l: &Listing<'_>, i: usize, out: &mut [u8]) -> Option<usize>
-    requires { (i < length l.now.lines) × (80 ≤ length out.old) }
+    requires { 80 ≤ length out.old }
     ensures { Gives result out.new (given (row_at l.now i)) }
 {
     if text_of(l, i, 1) == b" = ".as_slice() {
@@ -60,9 +59,8 @@ fn set_by(l: &Listing<'_>, i: usize, out: &mut [u8]) -> Option<usize>
 }
 
 // How many bytes are set for the call on line k, from the start of `out` on.
-#[tactic(auto, using(crate::proofs::For::for_within))]
 pub fn bytes_for(l: &Listing<'_>, register: &[u8], k: usize, out: &mut [u8]) -> Option<usize>
-    requires { (k < length l.now.lines) × (80 ≤ length out.old) }
+    requires { 80 ≤ length out.old }
     ensures { Gives result out.new (bytes_for l.now register.now k) }
 {
     let i = line_before(l, register, k)?;

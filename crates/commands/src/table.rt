@@ -25,7 +25,7 @@ pub struct Size {
 
 // The sizes of the table of the first m lines.
 fn measure(l: &Listing<'_>, m: usize, call: &[u8], register: &[u8]) -> Size
-    requires { (m ≤ length l.now.lines) × (m < 2 ^ 32) }
+    requires { m < 2 ^ 32 }
     ensures { Measured (made l.now call.now register.now m) result.bytes result.rows }
 {
     let mut found = [0u8; 80];
@@ -80,7 +80,7 @@ fn fill(
     rows: &mut [u64],
     calls: &mut [u64],
 )
-    requires lines { (m ≤ length l.now.lines) × (m < 2 ^ 32) }
+    requires lines { m < 2 ^ 32 }
     requires room { length (made l.now call.now register.now m).bytes ≤ length bytes.old }
     ensures { Fills (made l.now call.now register.now m) (table_lists bytes.old rows.old calls.old) (table_lists bytes.new rows.new calls.new) }
 {

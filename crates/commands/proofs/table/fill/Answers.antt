@@ -7,7 +7,7 @@ use Rattle.commands.proofs.table.fill.Goals as goal
 use Rattle.commands.proofs.table.fill.Goals.{then-calls_to, else-calls_to}
 
 pub loop-k-init : goal.loop-k-init
-loop-k-init c = (going_start _ _ _ c.requires.lines refl, storing_start _ _ _ c.args.m _ _ _ c.requires.room)
+loop-k-init c = (going_start _ _ c.requires.lines refl, storing_start _ _ _ c.args.m _ _ _ c.requires.room)
 
 pub loop-k-preserved : goal.loop-k-preserved
 loop-k-preserved c =

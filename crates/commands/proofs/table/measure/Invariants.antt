@@ -4,4 +4,4 @@ use Rattle.commands.proofs.Turns.{Going, Counted, left_from, whole}
 use Rattle.commands.proofs.table.measure.Given as goal
 
 abbrev pub invariant-loop-k : goal.invariant-loop-k
-invariant-loop-k l = Going l.m l.k l.n l.x l.l.lines l.found × Counted (whole l.l l.call l.register l.m) (left_from l.l l.call l.register l.m l.k) l.x l.n
+invariant-loop-k l = Going l.m l.k l.n l.x l.found × Counted (whole l.l l.call l.register l.m) (left_from l.l l.call l.register l.m l.k) l.x l.n
