@@ -18,7 +18,7 @@ pub fn end_at(ends: &[u32], j: usize) -> usize
     element_or(ends, j - 1, 0) as usize
 }
 
-// Each of the first n tokens has bytes, and one of the eight kinds.
+// Each of the first n tokens has bytes, and one of the eight kinds. By index: zip over two cut lists says no more.
 fn tokens_held(l: &Listing<'_>, n: usize) -> bool
     requires { (n ≤ length l.now.ends) × (n ≤ length l.now.kinds) }
     ensures { result ≡ all_below (token_held l.now) n }
@@ -42,7 +42,7 @@ fn row_held(n: usize, e: usize, mark: u16, address: u64) -> bool
     (n < e) & (mark < 512) & (mark % 256 <= 254) & ((256 <= mark) | (address == 0))
 }
 
-// Each of the first m rows is one.
+// Each of the first m rows is one. By index: it reads three lists beside each other, and zip of three is no plainer.
 fn rows_held(l: &Listing<'_>, m: usize) -> bool
     requires { (m ≤ length l.now.addresses) × (m ≤ length l.now.marks) × (m ≤ length l.now.lines) }
     ensures { result ≡ all_below (row_held l.now) m }

@@ -38,6 +38,7 @@ fn frame_size(mark: u16, place: u16) -> usize
     16 + numbers + 4
 }
 
+// All rows besides their tokens. By index: an entry past a list's end counts as 0, where zip would stop.
 fn frames_size(marks: &[u16], places: &[u16], m: usize) -> usize
     requires { m < 2 ^ 32 }
     ensures { (result ≡ frames_size marks.now places.now m) × (result ≤ 30 * m) }
