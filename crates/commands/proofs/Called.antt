@@ -7,12 +7,12 @@ use Prim.Native.Nat.{ℕ, zero, suc, ◌^◌, ◌≤◌, ◌<◌}
 use native.Mathlib.Nat.{zero-add}
 use native.Mathlib.Omega.{arith}
 use lib.Dec.{eqb, leb}
-use lib.ListN.{length, get_or, length-map}
+use lib.ListN.{length, length-map}
 use borrow.Author.Tests.{ne_eqb, leb-true}
 use Rattle.lists.specs.Choice.{ask}
 use Rattle.lists.specs.Put.{put}
 use Rattle.lists.specs.PutLaws.{put_fits}
-use Rattle.rows.specs.Lists.{Lists, over}
+use Rattle.rows.specs.Lists.{Lists, NumbersFit, over}
 use Rattle.rows.specs.Rows.{holds_rows}
 use Rattle.rows.specs.declared.answer.Sizes.{Sizes}
 use Rattle.rows.proofs.Held.{held}
@@ -21,7 +21,12 @@ use Rattle.csv_rows.proofs.Calls as writing
 use Rattle.commands.specs.Table.{Entry, entries_from, Table, table_of}
 use Rattle.commands.specs.Called.{table, table_no, Makes}
 use Rattle.commands.specs.Making.{made, room_no, Measured, Fills}
-use Rattle.commands.specs.declared.table.Tabled.TheVariants.{Entries, No}
+use Rattle.std.specs.Prelude.{Ok, Err}
+use Rattle.std.specs.declared.result.Result.{Result}
+use Rattle.lists.proofs.Answered.{number_some, value_is, question_is}
+use Rattle.lists.specs.Question.{number, Answers}
+use Rattle.lists.specs.declared.question.Question.{Question}
+use Rattle.lists.specs.declared.question.Question.TheVariants.{Rows, Names}
 use Rattle.commands.proofs.Told.{rows_count, few, told}
 
 -- ---- the questions
@@ -49,9 +54,8 @@ room_all x n b r a h =
     (leb-true x b f.0, leb-true n r g.0, leb-true n a k.0)
 
 -- there is an end for each line, and few of them
-pub lines_few : (l : Lists) (z : Sizes) → true ≡ holds_rows l z.text z.tokens z.lines → ((i : ℕ) → get_or l.ends i 0 < 2 ^ 32) → ((i : ℕ) → get_or l.lines i 0 < 2 ^ 32)
-    → (z.lines ≤ length l.lines) × (z.lines < 2 ^ 32)
-lines_few l z h e k = ((held l z.text z.tokens z.lines (sym h)).room.lines, (writing.few l z [] h e k).2)
+pub lines_few : (l : Lists) (z : Sizes) → true ≡ holds_rows l z.text z.tokens z.lines → NumbersFit l → (z.lines ≤ length l.lines) × (z.lines < 2 ^ 32)
+lines_few l z h w = ((held l z.text z.tokens z.lines (sym h)).room.lines, (writing.few l z [] h w).2)
 
 -- what is stored from the start on, where there is room
 stored : (t e : List ℕ) → length t ≤ length e → put 0 t e ≡ over t e
@@ -59,21 +63,29 @@ stored t e h = put_fits 0 t e (omega arith) ∙ rw zero-add
 
 module _ (l : Lists) (z : Sizes) (call register : List ℕ) where
   -- with a number nothing is changed
-  refused : (b : Table) (n : ℕ) → table_no l z call register b ≡ n → (n ≡ 0 → ⊥) → Makes l z call register b b (No n)
-  refused b zero e h = absurd (h refl)
-  refused b (suc n) e h =
-      record { answer = rw e; bytes = rw e; rows = rw e; addresses = rw e; told = λ q. absurd (omega (arith, q)); few = few l z call register }
+  refused : (b : Table) (n : ℕ) (q : Question) → table_no l z call register b ≡ n → n ≡ number q → Makes l z call register b b (Err q)
+  refused b zero q e h = let k = number_some q in absurd (omega (arith, k, h))
+  refused b (suc n) q e h =
+      let k = number_some q in
+      record {
+        answer = e ∙ h;
+        bytes = rw e;
+        rows = rw e;
+        addresses = rw e;
+        told = λ f. absurd (omega (arith, f, k));
+        few = few l z call register;
+      }
 
   -- 19
-  pub no_name : (b : Table) → (eqb (length call) 0 || eqb (length register) 0) ≡ true → Makes l z call register b b (No 19)
+  pub no_name : (b : Table) → (eqb (length call) 0 || eqb (length register) 0) ≡ true → Makes l z call register b b (Err Names)
   unfolding table_no
-  no_name b h = refused b 19 (rw (names call register, h)) (λ e. omega arith)
+  no_name b h = refused b 19 Names (rw (names call register, h)) refl
 
   module _ (named : (eqb (length call) 0 || eqb (length register) 0) ≡ false) where
     -- 16
-    pub no_rows : (b : Table) → false ≡ holds_rows l z.text z.tokens z.lines → Makes l z call register b b (No 16)
+    pub no_rows : (b : Table) → false ≡ holds_rows l z.text z.tokens z.lines → Makes l z call register b b (Err Rows)
     unfolding table_no
-    no_rows b h = refused b 16 (rw (names call register, named, ← h)) (λ e. omega arith)
+    no_rows b h = refused b 16 Rows (rw (names call register, named, ← h)) refl
 
     module _ (h : true ≡ holds_rows l z.text z.tokens z.lines) {x n : ℕ} (w : Measured (made l call register z.lines) x n) where
       bytes_size : x ≡ length (table l z call register).bytes
@@ -96,29 +108,33 @@ module _ (l : Lists) (z : Sizes) (call register : List ℕ) where
       room_asked b = rw (names call register, named, ← h, ← bytes_size, ← rows_size, ← addresses_size)
 
       -- 12 to 14
-      pub no_room : (b : Table) {k : ℕ} → k ≡ room_no x n (length b.bytes) (length b.rows) (length b.addresses) → (k ≡ 0 → ⊥) → Makes l z call register b b (No k)
-      no_room b {k} e = refused b k (room_asked b ∙ sym e)
+      module _ {A : Type 0} (o : A) (b : Table) (g : Result A Question) (v : Answers (room_no x n (length b.bytes) (length b.rows) (length b.addresses)) o g) where
+        pub no_room : {q : Question} → g ≡ Err q → Makes l z call register b b (Err q)
+        no_room {q} e = refused b _ q (room_asked b) (question_is _ o g q v e)
 
-      module _ (b : Table) {k : ℕ} (e : k ≡ room_no x n (length b.bytes) (length b.rows) (length b.addresses)) (q : k ≡ 0) where
-        roomy : (x ≤ length b.bytes) × (n ≤ length b.rows) × (n ≤ length b.addresses)
-        roomy = room_all x n (length b.bytes) (length b.rows) (length b.addresses) (sym e ∙ q)
+        module _ {y : A} (e : g ≡ Ok y) where
+          no_no : room_no x n (length b.bytes) (length b.rows) (length b.addresses) ≡ 0
+          no_no = (value_is _ o g y v e).0
 
-        pub bytes_room : length (made l call register z.lines).bytes ≤ length b.bytes
-        bytes_room = omega (arith, roomy.0, w.bytes_size)
+          roomy : (x ≤ length b.bytes) × (n ≤ length b.rows) × (n ≤ length b.addresses)
+          roomy = room_all x n (length b.bytes) (length b.rows) (length b.addresses) no_no
 
-        pub makes : (a : Table) → Fills (made l call register z.lines) b a → Makes l z call register b a (Entries x n)
-        unfolding made
-        makes a f =
-            let t = table l z call register in
-            let zero_no : table_no l z call register b ≡ 0 = room_asked b ∙ sym e ∙ q in
-            let p : a.bytes ≡ over t.bytes b.bytes = f.bytes ∙ stored t.bytes b.bytes (omega (arith, roomy.0, bytes_size)) in
-            let r : a.rows ≡ over t.rows b.rows = f.rows ∙ stored t.rows b.rows (omega (arith, roomy.1, rows_size)) in
-            let c : a.addresses ≡ over t.addresses b.addresses = f.addresses ∙ stored t.addresses b.addresses (omega (arith, roomy.2, addresses_size)) in
-            record {
-              answer = rw (zero_no, ← bytes_size, ← rows_size);
-              bytes = rw zero_no p;
-              rows = rw zero_no r;
-              addresses = rw zero_no c;
-              told = λ _ j i. told l z call register a _ _ _ p r c j (omega (arith, i, rows_size));
-              few = few l z call register;
-            }
+          pub bytes_room : length (made l call register z.lines).bytes ≤ length b.bytes
+          bytes_room = omega (arith, roomy.0, w.bytes_size)
+
+          pub makes : (a : Table) → Fills (made l call register z.lines) b a → Makes l z call register b a (Ok (record { bytes = x; rows = n }))
+          unfolding made
+          makes a f =
+              let t = table l z call register in
+              let zero_no : table_no l z call register b ≡ 0 = room_asked b ∙ no_no in
+              let p : a.bytes ≡ over t.bytes b.bytes = f.bytes ∙ stored t.bytes b.bytes (omega (arith, roomy.0, bytes_size)) in
+              let r : a.rows ≡ over t.rows b.rows = f.rows ∙ stored t.rows b.rows (omega (arith, roomy.1, rows_size)) in
+              let c : a.addresses ≡ over t.addresses b.addresses = f.addresses ∙ stored t.addresses b.addresses (omega (arith, roomy.2, addresses_size)) in
+              record {
+                answer = (zero_no, rw (bytes_size, rows_size));
+                bytes = rw zero_no p;
+                rows = rw zero_no r;
+                addresses = rw zero_no c;
+                told = λ _ j i. told l z call register a _ _ _ p r c j (omega (arith, i, rows_size));
+                few = few l z call register;
+              }

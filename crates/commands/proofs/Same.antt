@@ -1,10 +1,11 @@
 -- Texts are the same bytes exactly when they are equal, and what says that two are equal says that they are the same.
 -- Both lists are walked together; then by cases on the test.
 use mathlib.Core.Path.{◌≡◌, refl, sym, ap, ◌∙◌}
-use mathlib.Core.Bool.{Bool, true}
+use mathlib.Core.Bool.{Bool, true, ◌&&◌}
 use mathlib.Core.List.{List, [], ◌∷◌}
 use Prim.Native.Nat.{ℕ}
 use lib.Dec.{eqb}
+use lib.Pointwise.{pointwise}
 use borrow.Author.Tests.{eqb-true, eq-eqb}
 use Rattle.lists.specs.Every.{both_yes}
 use Rattle.x86.specs.Words.{same_word}
@@ -19,6 +20,13 @@ same_equal (x ∷ a) (y ∷ b) e = let q = both_yes (eqb x y) (same_word a b) e 
 pub same_self : (a : List ℕ) → same_word a a ≡ true
 same_self [] = refl
 same_self (x ∷ a) = rw (eq-eqb x x refl, same_self a)
+
+-- as the code tests it
+pub same_pointwise : (a b : List ℕ) → pointwise eqb a b ≡ same_word a b
+same_pointwise [] [] = refl
+same_pointwise [] (y ∷ b) = refl
+same_pointwise (x ∷ a) [] = refl
+same_pointwise (x ∷ a) (y ∷ b) = ap (λ (t : Bool). eqb x y && t) (same_pointwise a b)
 
 pub same_test : (a b : List ℕ) (r : Bool) → (r ≡ true → a ≡ b) × (a ≡ b → r ≡ true) → r ≡ same_word a b
 same_test a b r h =

@@ -1,9 +1,10 @@
 -- The bytes set for a call are those of a source, and where there is a source it is found.
 -- The search back finds just the line that is the last one of its block, by induction on how many lines lie before.
-use mathlib.Core.Path.{◌≡◌, refl, sym, ◌∙◌}
+use mathlib.Core.Path.{◌≡◌, refl, sym, ap, ◌∙◌}
 use mathlib.Core.Bool.{Bool, true, false}
 use mathlib.Core.List.{List}
-use mathlib.Core.Option.{none, some}
+use Rattle.std.specs.Prelude.{Option, None, Some}
+use Rattle.std.proofs.lemmas.Option.{none-some, same_Some}
 use Prim.Native.Nat.{ℕ, zero, suc, ◌≤◌, ◌<◌}
 use native.Mathlib.Nat.{not-suc-le-zero}
 use native.Mathlib.Decide.{ℕ_discrete}
@@ -21,7 +22,7 @@ use Rattle.commands.specs.Called.{Source}
 use Rattle.commands.proofs.Strings.{string_sound, string_complete}
 
 -- two different constructors
-some_none : {A B : Type 0} (s : A) → some s ≡ none → B
+some_none : {A B : Type 0} (s : A) → Some s ≡ None → B
 some_none s h = let z : ◌≡◌ {A = ℕ} 0 1 = cc in absurd (omega arith)
 
 module _ (l : Lists) (register : List ℕ) (p : ℕ) where
@@ -55,17 +56,17 @@ module _ (l : Lists) (register : List ℕ) (p : ℕ) where
       }
 
   -- what is found is such a line
-  found : (k i : ℕ) → line_before l register p k ≡ suc i → Last k i
+  found : (k i : ℕ) → line_before l register p k ≡ Some i → Last k i
   unfolding line_before
-  found zero i h = absurd (omega (arith, h))
+  found zero i h = absurd (none-some i h)
   found (suc k) i h = go (eqb (row_at l k).place p) (is_call (row_at l k)) (begins_with register (row_at l k)) refl refl refl h (found k i)
     where
       go : (a b c : Bool) → eqb (row_at l k).place p ≡ a → is_call (row_at l k) ≡ b → begins_with register (row_at l k) ≡ c
-          → pick a (pick b 0 (pick c (suc k) (line_before l register p k))) (line_before l register p k) ≡ suc i → (line_before l register p k ≡ suc i → Last k i)
+          → pick a (pick b None (pick c (Some k) (line_before l register p k))) (line_before l register p k) ≡ Some i → (line_before l register p k ≡ Some i → Last k i)
           → Last (suc k) i
-      go true true c e f g h ih = absurd (omega (arith, h))
+      go true true c e f g h ih = absurd (none-some i h)
       go true false true e f g h ih =
-          let q : k ≡ i = omega (arith, h) in
+          let q : k ≡ i = same_Some k i h in
           record {
             earlier = omega arith;
             block = rw (← q) (eqb-true (row_at l k).place p e);
@@ -77,29 +78,29 @@ module _ (l : Lists) (register : List ℕ) (p : ℕ) where
       go false b c e f g h ih = further k i (ih h) (λ q. absurd (eqb-false (row_at l k).place p e q))
 
   -- and such a line is found
-  finds : (k i : ℕ) → Last k i → line_before l register p k ≡ suc i
+  finds : (k i : ℕ) → Last k i → line_before l register p k ≡ Some i
   unfolding line_before
   finds zero i w = absurd (not-suc-le-zero w.earlier)
   finds (suc k) i w = go (eqb (row_at l k).place p) (begins_with register (row_at l k)) refl refl (λ q. finds k i (nearer k i w q))
     where
-      go : (a c : Bool) → eqb (row_at l k).place p ≡ a → begins_with register (row_at l k) ≡ c → ((i ≡ k → ⊥) → line_before l register p k ≡ suc i)
-          → pick a (pick (is_call (row_at l k)) 0 (pick c (suc k) (line_before l register p k))) (line_before l register p k) ≡ suc i
+      go : (a c : Bool) → eqb (row_at l k).place p ≡ a → begins_with register (row_at l k) ≡ c → ((i ≡ k → ⊥) → line_before l register p k ≡ Some i)
+          → pick a (pick (is_call (row_at l k)) None (pick c (Some k) (line_before l register p k))) (line_before l register p k) ≡ Some i
       go true c e g ih = rw (w.after k (omega (arith, w.earlier)) (omega arith) (eqb-true (row_at l k).place p e)) (here c g)
         where
-          here : (c : Bool) → begins_with register (row_at l k) ≡ c → pick c (suc k) (line_before l register p k) ≡ suc i
-          here true g = elim (ℕ_discrete i k) [ yes q ↦ omega arith | no q ↦ never (sym (w.last k (omega (arith, w.earlier)) (omega arith) (eqb-true (row_at l k).place p e)) ∙ g) ]
+          here : (c : Bool) → begins_with register (row_at l k) ≡ c → pick c (Some k) (line_before l register p k) ≡ Some i
+          here true g = elim (ℕ_discrete i k) [ yes q ↦ ap Some (sym q) | no q ↦ never (sym (w.last k (omega (arith, w.earlier)) (omega arith) (eqb-true (row_at l k).place p e)) ∙ g) ]
           here false g = ih (λ q. never (sym g ∙ rw (← q) w.first))
       go false c e g ih = ih (λ q. eqb-false (row_at l k).place p e (rw (← q) w.block))
 
 -- ---- the literal that a line sets
 module _ (l : Lists) (register : List ℕ) where
   -- the bytes found are those of a source
-  pub source : (k : ℕ) (s : List ℕ) → bytes_for l register k ≡ some s → Source l register k s
+  pub source : (k : ℕ) (s : List ℕ) → bytes_for l register k ≡ Some s → Source l register k s
   unfolding bytes_for given
   source k s h = go (line_before l register (row_at l k).place k) refl h
     where
       of : (i : ℕ) → Last l register (row_at l k).place k i → (b : Bool) → is_assign (token_of (row_at l i) 1) ≡ b
-          → pick b (string_of (token_of (row_at l i) 2)) none ≡ some s → Source l register k s
+          → pick b (string_of (token_of (row_at l i) 2)) None ≡ Some s → Source l register k s
       of i w true e h =
           let f = string_sound (token_of (row_at l i) 2) s h in
           record {
@@ -116,17 +117,17 @@ module _ (l : Lists) (register : List ℕ) where
           }
       of i w false e h = some_none s (sym h)
 
-      go : (n : ℕ) → line_before l register (row_at l k).place k ≡ n → given_by l register n ≡ some s → Source l register k s
-      go zero e h = some_none s (sym h)
-      go (suc i) e h = of i (found l register (row_at l k).place k i e) (is_assign (token_of (row_at l i) 1)) refl h
+      go : (n : Option ℕ) → line_before l register (row_at l k).place k ≡ n → given_by l register n ≡ Some s → Source l register k s
+      go None e h = some_none s (sym h)
+      go (Some i) e h = of i (found l register (row_at l k).place k i e) (is_assign (token_of (row_at l i) 1)) refl h
 
   -- and a source's bytes are found
-  pub source_found : (k : ℕ) (s : List ℕ) → Source l register k s → bytes_for l register k ≡ some s
+  pub source_found : (k : ℕ) (s : List ℕ) → Source l register k s → bytes_for l register k ≡ Some s
   unfolding bytes_for given
   source_found k s w =
       let f = finds l register (row_at l k).place k w.line (record { earlier = w.earlier; block = w.block; first = w.first; after = w.after; last = w.last }) in
       rw (f, w.second) (string_complete (token_of (row_at l w.line) 2) w.wide s w.third w.whole)
 
   -- a call without bytes has no source for any
-  pub no_source : (k : ℕ) (s : List ℕ) → bytes_for l register k ≡ none → Source l register k s → ⊥
+  pub no_source : (k : ℕ) (s : List ℕ) → bytes_for l register k ≡ None → Source l register k s → ⊥
   no_source k s h w = some_none s (sym (source_found k s w) ∙ h)

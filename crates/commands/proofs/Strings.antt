@@ -3,7 +3,7 @@
 use mathlib.Core.Path.{◌≡◌, refl, sym, ap, ◌∙◌}
 use mathlib.Core.Bool.{Bool, true, false, ◌&&◌}
 use mathlib.Core.List.{List, [], ◌∷◌, ◌++◌, append_assoc}
-use mathlib.Core.Option.{some, none}
+use Rattle.std.specs.Prelude.{Some, None}
 use Prim.Native.Nat.{ℕ, zero, suc, ◌≤◌, ◌<◌}
 use native.Mathlib.Omega.{arith}
 use lib.Dec.{eqb, ltb}
@@ -30,7 +30,7 @@ few_characters (suc n) t =
     (λ h. rw h (omega arith))
     (λ h. rw h (omega (arith, few_characters n (drop (length (escape (guess_of t))) t))))
 
-pub string_sound : (t : Token) (s : List ℕ) → string_of t ≡ some s → (wide : Bool) × (IsLiteral t.kind t.bytes wide s × (length s ≤ 80))
+pub string_sound : (t : Token) (s : List ℕ) → string_of t ≡ Some s → (wide : Bool) × (IsLiteral t.kind t.bytes wide s × (length s ≤ 80))
 unfolding string_of
 string_sound t s e =
     let w = is_wide t.bytes in
@@ -40,11 +40,11 @@ string_sound t s e =
     (λ h.
     let a = both_yes (eqb t.kind 5) (is_string u && same) h in
     let b = both_yes (is_string u) same a.1 in
-    let f : some u ≡ some s = rw h at e in
+    let f : Some u ≡ Some s = rw h at e in
     let g : u ≡ s = cc in
     let is : IsLiteral t.kind t.bytes w u = record { token = eqb-true t.kind 5 a.0; string = b.0; text = same_equal (literal_text w u) t.bytes b.1 } in
     (w, (rw g at is, rw g at (few_characters 80 (drop (length (opening w)) t.bytes)))))
-    (λ h. let f : none ≡ some s = rw h at e in let z : ◌≡◌ {A = ℕ} 0 1 = cc in absurd (omega arith))
+    (λ h. let f : None ≡ Some s = rw h at e in let z : ◌≡◌ {A = ℕ} 0 1 = cc in absurd (omega arith))
 
 -- ---- completeness
 -- the spelling of a quote begins with a backslash
@@ -84,7 +84,7 @@ module _ (wide : Bool) (s : List ℕ) (h : is_string s ≡ true) (l : length s �
   read_back : read_off (literal_text wide s) ≡ s
   read_back = rw (wide_back, inside, drop-append_seam) (characters_back 80 s h l)
 
-pub string_complete : (t : Token) (wide : Bool) (s : List ℕ) → IsLiteral t.kind t.bytes wide s → length s ≤ 80 → string_of t ≡ some s
+pub string_complete : (t : Token) (wide : Bool) (s : List ℕ) → IsLiteral t.kind t.bytes wide s → length s ≤ 80 → string_of t ≡ Some s
 unfolding string_of
 string_complete t wide s q l =
     rw (← q.text, read_back wide s q.string l, wide_back wide s, eq-eqb t.kind 5 q.token, q.string, same_self (literal_text wide s))

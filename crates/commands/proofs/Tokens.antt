@@ -10,34 +10,34 @@ use Rattle.lists.specs.Entries.{tab_at}
 use Rattle.lists.proofs.Tabs.{tab_past}
 use Rattle.tokens.specs.Token.{Token, token}
 use Rattle.tokens.specs.Lines.{end_at, between, token_at, line_at}
-use Rattle.rows.specs.Lists.{lists_of}
+use Rattle.rows.specs.Lists.{Lists}
 use Rattle.rows.specs.Rows.{row_at}
 use Rattle.commands.specs.Calls.{token_of}
 
 -- ---- token k of line i, whose tokens are those from n up to o
-module _ (x e c a m p l : List ℕ) (i k n o : ℕ) (g : n ≡ end_at l i) (h : o ≡ end_at l (i + 1)) where
+module _ (l : Lists) (i k n o : ℕ) (g : n ≡ end_at l.lines i) (h : o ≡ end_at l.lines (i + 1)) where
   abbrev here : Token
-  here = token_of (row_at (lists_of x e c a m p l) i) k
+  here = token_of (row_at l i) k
 
-  last : get_or l i 0 ≡ o
-  last = ap (end_at l) (sym (add-one i)) ∙ sym h
+  last : get_or l.lines i 0 ≡ o
+  last = ap (end_at l.lines) (sym (add-one i)) ∙ sym h
 
-  token_in : k < o - n → here ≡ token_at x e c (n + k)
+  token_in : k < o - n → here ≡ token_at l.text l.ends l.kinds (n + k)
   unfolding row_at line_at
-  token_in q = rw (last, ← g) (tab_at (token_at x e c) n (o - n) k (token 0 []) q)
+  token_in q = rw (last, ← g) (tab_at (token_at l.text l.ends l.kinds) n (o - n) k (token 0 []) q)
 
   token_past : o - n ≤ k → here ≡ token 0 []
   unfolding row_at line_at
-  token_past q = rw (last, ← g) (tab_past (token_at x e c) n (o - n) k (token 0 []) q)
+  token_past q = rw (last, ← g) (tab_past (token_at l.text l.ends l.kinds) n (o - n) k (token 0 []) q)
 
-  pub kind_in_lem : (r : ℕ) → k < o - n → r ≡ u8_at c (n + k) → r ≡ here.kind
+  pub kind_in_lem : (r : ℕ) → k < o - n → r ≡ u8_at l.kinds (n + k) → r ≡ here.kind
   unfolding token_at
   kind_in_lem r q s = s ∙ ap (λ (t : Token). t.kind) (sym (token_in q))
 
   pub kind_past : o - n ≤ k → 0 ≡ here.kind
   kind_past q = ap (λ (t : Token). t.kind) (sym (token_past q))
 
-  pub text_in : (u v : ℕ) (r : List ℕ) → k < o - n → u ≡ end_at e (n + k) → v ≡ end_at e (n + k + 1) → r ≡ between u v x → r ≡ here.bytes
+  pub text_in : (u v : ℕ) (r : List ℕ) → k < o - n → u ≡ end_at l.ends (n + k) → v ≡ end_at l.ends (n + k + 1) → r ≡ between u v l.text → r ≡ here.bytes
   unfolding token_at
   text_in u v r q s w z = z ∙ rw (s, w, add-one) (ap (λ (t : Token). t.bytes) (sym (token_in q)))
 

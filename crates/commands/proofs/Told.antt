@@ -3,7 +3,7 @@
 use mathlib.Core.Path.{◌≡◌, refl, sym, ap, ◌∙◌}
 use mathlib.Core.Bool.{true, false}
 use mathlib.Core.List.{List, [], ◌∷◌, ◌++◌, map, append_assoc}
-use mathlib.Core.Option.{Option, none, some}
+use Rattle.std.specs.Prelude.{Option, None, Some}
 use Prim.Native.Nat.{ℕ, zero, suc, ◌+◌, ◌-◌, ◌*◌, ◌/◌, ◌%◌, ◌≤◌, ◌<◌}
 use native.Mathlib.Nat.{not-suc-le-zero}
 use native.Mathlib.Omega.{arith}
@@ -24,7 +24,7 @@ use Rattle.commands.proofs.Entries.{entry_of, entries_call, entries_other}
 
 -- ---- a row of the lists and its entry
 abbrev nothing : Entry
-nothing = record { address = 0; bytes = none }
+nothing = record { address = 0; bytes = None }
 
 -- where the bytes of row j begin, if those of the first row begin at x
 abbrev start : ℕ → List ℕ → ℕ → ℕ
@@ -36,8 +36,8 @@ record Shows (x : ℕ) (bytes rows : List ℕ) (e : Entry) (j : ℕ) : Type 0 wh
   part : between (start x rows j) (get_or rows j 0 / 2) bytes ≡ bytes_in e.bytes
 
 mark_small : (o : Option (List ℕ)) → none_mark o ≤ 1
-mark_small none = omega arith
-mark_small (some s) = omega arith
+mark_small None = omega arith
+mark_small (Some s) = omega arith
 
 start_next : (x y r : ℕ) (rows : List ℕ) (j : ℕ) → r / 2 ≡ y → start x (r ∷ rows) (suc j) ≡ start y rows j
 start_next x y r rows zero h = h
@@ -89,7 +89,7 @@ module _ (l : Lists) (call register : List ℕ) where
       record {
         line = w.line;
         from = omega (arith, w.from);
-        within = omega (arith, w.min);
+        within = omega (arith, w.within);
         calls = w.calls;
         address = w.address;
         bytes = w.bytes;
@@ -121,8 +121,8 @@ module _ (l : Lists) (call register : List ℕ) where
   bytes_few k = go (bytes_for l register k) refl
     where
       go : (o : Option (List ℕ)) → bytes_for l register k ≡ o → length (bytes_in o) ≤ 80
-      go none e = omega arith
-      go (some s) e = (source l register k s e).whole
+      go None e = omega arith
+      go (Some s) e = (source l register k s e).whole
 
   pub few_bytes : (n k : ℕ) → length (all_bytes (entries_from l call register k n)) ≤ 80 * n
   unfolding entries_from all_bytes
@@ -145,8 +145,8 @@ module _ (l : Lists) (z : Sizes) (call register : List ℕ) where
   -- a row's bytes and mark tell whether there is a source
   tells : (k : ℕ) (s : List ℕ) (m : ℕ) (o : Option (List ℕ)) → bytes_for l register k ≡ o → s ≡ bytes_in o → m ≡ none_mark o
       → (eqb m 1 ≡ false → Source l register k s) × (eqb m 1 ≡ true → (t : List ℕ) → Source l register k t → ⊥)
-  tells k s m none e p q = (λ h. absurd (eqb-false m 1 h q), λ _ t w. no_source l register k t e w)
-  tells k s m (some t) e p q = (λ _. rw p (source l register k t e), λ h. absurd (omega (arith, eqb-true m 1 h, q)))
+  tells k s m None e p q = (λ h. absurd (eqb-false m 1 h q), λ _ t w. no_source l register k t e w)
+  tells k s m (Some t) e p q = (λ _. rw p (source l register k t e), λ h. absurd (omega (arith, eqb-true m 1 h, q)))
 
   byte_start : (rows : List ℕ) (j : ℕ) → byte_end rows j ≡ start 0 rows j
   byte_start rows zero = refl
@@ -168,7 +168,7 @@ module _ (l : Lists) (z : Sizes) (call register : List ℕ) where
         let g = tells w.line (row_bytes t.bytes t.rows j) (get_or t.rows j 0 % 2) (get_or es j nothing).bytes (sym w.bytes) part mark in
         record {
           line = w.line;
-          within = omega (arith, w.min);
+          within = omega (arith, w.within);
           calls = w.calls;
           address = rw c (get_or-append (map f es) cs 0 j (omega (arith, length-map es f)) ∙ get_or-map f es j nothing ∙ w.address);
           bytes = g.0;

@@ -3,7 +3,7 @@
 use mathlib.Core.Path.{◌≡◌, refl, sym, ap, ◌∙◌}
 use mathlib.Core.Bool.{Bool, true, false}
 use mathlib.Core.List.{List, [], ◌∷◌, map}
-use mathlib.Core.Option.{Option, none, some}
+use Rattle.std.specs.Prelude.{Option, None, Some}
 use Prim.Native.Nat.{ℕ, suc, ◌+◌, ◌-◌, ◌*◌, ◌^◌, ◌≤◌, ◌<◌}
 use native.Mathlib.Numerals.{add-one}
 use native.Mathlib.Omega.{arith}
@@ -14,9 +14,9 @@ use Rattle.rows.specs.Lists.{Lists}
 use Rattle.rows.specs.Rows.{row_at}
 use Rattle.commands.specs.Calls.{calls_to}
 use Rattle.commands.specs.Table.{Entry, bytes_for, entries_from, table_lists, bytes_in, none_mark, all_bytes, row_numbers, table_of}
-use Rattle.commands.specs.Making.{found_of, no_mark, made, Measured, Fills}
+use Rattle.commands.specs.Making.{found_of, count_of, no_mark, made, Measured, Fills}
 use Rattle.commands.proofs.Entries.{entry_of, entries_call, entries_other}
-use Rattle.commands.proofs.Told.{rows_count}
+use Rattle.commands.proofs.Told.{rows_count, bytes_few}
 
 -- ---- how far: line i of m, with n rows and x bytes before it
 pub record Going (m i n x : ℕ) (lines found : List ℕ) : Type 0 where
@@ -82,13 +82,17 @@ pub same_lengths : {whole left : List Entry} {x n : ℕ} {b₀ r₀ c₀ b r c :
 same_lengths w = (same_put _ _ _ _ _ w.bytes, same_put _ _ _ _ _ w.rows, same_put _ _ _ _ _ w.addresses)
 
 -- ---- what was found for a call
-found_size : (o : Option (List ℕ)) → length (bytes_in o) ≡ found_of o - 1
-found_size none = refl
-found_size (some s) = omega arith
+found_size : (o : Option (List ℕ)) → length (bytes_in o) ≡ count_of (found_of o)
+found_size None = refl
+found_size (Some s) = refl
 
 found_mark : (o : Option (List ℕ)) → no_mark (found_of o) ≡ none_mark o
-found_mark none = refl
-found_mark (some s) = refl
+found_mark None = refl
+found_mark (Some s) = refl
+
+-- at most 80 bytes
+pub found_few : (l : Lists) (register : List ℕ) (k : ℕ) (q : Option ℕ) → q ≡ found_of (bytes_for l register k) → count_of q ≤ 80
+found_few l register k q f = rw (f, ← found_size (bytes_for l register k)) (bytes_few l [] register k)
 
 -- ---- the lines from line i on
 module _ (l : Lists) (call register : List ℕ) (m : ℕ) where
@@ -138,20 +142,20 @@ module _ (l : Lists) (call register : List ℕ) (m : ℕ) where
       left_call : left_from i ≡ entry_of l call register i ∷ left_from (i + 1)
       left_call = rw (step, entries_call l call register i here (sym t ∙ u), add-one)
 
-      pub counted_call : {x n : ℕ} (q y : ℕ) → q ≡ found_of (bytes_for l register i) → y ≡ q - 1 → Counted whole (left_from i) x n → Counted whole (left_from (i + 1)) (x + y) (n + 1)
+      pub counted_call : {x n : ℕ} (q : Option ℕ) (y : ℕ) → q ≡ found_of (bytes_for l register i) → y ≡ count_of q → Counted whole (left_from i) x n → Counted whole (left_from (i + 1)) (x + y) (n + 1)
       counted_call {x} {n} q y f g w =
           let d : y ≡ length (bytes_in (bytes_for l register i)) = g ∙ rw f (sym (found_size (bytes_for l register i))) in
           rw d (counted_more whole (left_from (i + 1)) (entry_of l call register i) x n (rw left_call at w))
 
-      module _ {x n : ℕ} {b₀ r₀ c₀ b r c : List ℕ} (w : Storing whole (left_from i) x n b₀ r₀ c₀ b r c) {q : ℕ} (f : q ≡ found_of (bytes_for l register i)) where
-        size : q - 1 ≡ length (bytes_in (bytes_for l register i))
+      module _ {x n : ℕ} {b₀ r₀ c₀ b r c : List ℕ} (w : Storing whole (left_from i) x n b₀ r₀ c₀ b r c) {q : Option ℕ} (f : q ≡ found_of (bytes_for l register i)) where
+        size : count_of q ≡ length (bytes_in (bytes_for l register i))
         size = rw f (sym (found_size (bytes_for l register i)))
 
-        pub call_room : x + (q - 1) ≤ length b
+        pub call_room : x + count_of q ≤ length b
         call_room = rw size (row_room whole (left_from (i + 1)) (entry_of l call register i) x n b₀ r₀ c₀ b r c (rw left_call at w))
 
-        pub storing_call : {b' r' c' : List ℕ} (found : List ℕ) (y v : ℕ) → take (length (bytes_in (bytes_for l register i))) found ≡ bytes_in (bytes_for l register i) → y ≡ x + (q - 1)
-            → b' ≡ put x (take (q - 1) found) b → r' ≡ set r n (2 * y + no_mark q) → v ≡ get_or l.addresses i 0 → c' ≡ set c n v
+        pub storing_call : {b' r' c' : List ℕ} (found : List ℕ) (y v : ℕ) → take (length (bytes_in (bytes_for l register i))) found ≡ bytes_in (bytes_for l register i) → y ≡ x + count_of q
+            → b' ≡ put x (take (count_of q) found) b → r' ≡ set r n (2 * y + no_mark q) → v ≡ get_or l.addresses i 0 → c' ≡ set c n v
             → Storing whole (left_from (i + 1)) y (n + 1) b₀ r₀ c₀ b' r' c'
         unfolding row_at
         storing_call found y v g p s a e k =

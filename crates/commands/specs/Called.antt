@@ -9,26 +9,20 @@ use Rattle.csv_rows.specs.Format.{some}
 use Rattle.strings.specs.Called.{IsLiteral}
 use Rattle.commands.specs.Calls.{token_of, is_assign, is_call, calls_to, begins_with}
 use Rattle.commands.specs.Table.{Table, entries_from, table_of}
-use Rattle.commands.specs.declared.table.Tabled.{Tabled}
-use Rattle.commands.specs.declared.table.Tabled.TheVariants.{Entries, No}
+use Rattle.commands.specs.declared.table.Size.{Size}
+use Rattle.std.specs.Prelude.{Ok, Err}
+use Rattle.std.specs.declared.result.Result.{Result}
+use Rattle.lists.specs.Question.{number_of, Answers}
+use Rattle.lists.specs.declared.question.Question.{Question}
 
 -- ---- the answer: how many bytes and rows the table has, or the number
-abbrev pub number_of : Tabled → ℕ
-number_of (Entries bytes rows) = 0
-number_of (No n) = n
-
-pub record Counts : Type 0 where
-  pub bytes : ℕ
-  pub rows : ℕ
+abbrev pub size_of : Table → Size
+size_of t = record { bytes = length t.bytes; rows = length t.rows }
 
 -- "other answers beside a number 0 or no"
-abbrev pub counts_of : Tabled → Counts
-counts_of (Entries bytes rows) = record { bytes = bytes; rows = rows }
-counts_of (No n) = record { bytes = 0; rows = 0 }
-
-abbrev pub answer_for : Table → ℕ → Tabled
-answer_for t zero = Entries (length t.bytes) (length t.rows)
-answer_for t (suc n) = No (suc n)
+abbrev pub counts_of : Result Size Question → Size
+counts_of (Ok z) = z
+counts_of (Err q) = record { bytes = 0; rows = 0 }
 
 -- ---- a table's rows, as its lists hold them
 -- where the bytes of the first j rows end
@@ -87,8 +81,8 @@ module _ (l : Lists) (z : Sizes) (call register : List ℕ) where
       0))))
 
   -- the table's lists before (b) and after (a) the call
-  pub record Makes (b a : Table) (r : Tabled) : Type 0 where
-    pub answer : r ≡ answer_for table (table_no b)
+  pub record Makes (b a : Table) (r : Result Size Question) : Type 0 where
+    pub answer : Answers (table_no b) (size_of table) r
     pub bytes : a.bytes ≡ left (table_no b) table.bytes b.bytes
     pub rows : a.rows ≡ left (table_no b) table.rows b.rows
     pub addresses : a.addresses ≡ left (table_no b) table.addresses b.addresses

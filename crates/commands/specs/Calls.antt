@@ -1,7 +1,7 @@
 -- What #113 says of a single line: whether it is a call line, whether it begins with a register, which bytes it sets it to.
 -- The kinds of tokens are 1 Register, 5 Address (of which literals are some), 6 Punct.
 use Rattle.std.specs.Prelude.{Bool, ◌&&◌, List, [], ℕ, eqb, get_or}
-use Rattle.std.proofs.Math.Option.{Option, none}
+use Rattle.std.specs.Prelude.{Option, None}
 use Rattle.lists.specs.Ascii.{ascii}
 use Rattle.lists.specs.Choice.{pick}
 use Rattle.x86.specs.Words.{same_word}
@@ -35,4 +35,4 @@ begins_with register r = eqb (token_of r 0).kind 1 && same_word (token_of r 0).b
 
 -- the bytes that such a line sets: "if its second is ` = ` and its third a literal"; "any other second or third token .. gives none"
 unfoldable pub given : Row → Option (List ℕ)
-given r = pick (is_assign (token_of r 1)) (string_of (token_of r 2)) none
+given r = pick (is_assign (token_of r 1)) (string_of (token_of r 2)) None

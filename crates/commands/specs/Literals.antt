@@ -1,6 +1,6 @@
 -- The string whose literal a token is: a text is read character by character, and what was read must have just that literal.
 use Rattle.std.specs.Prelude.{Bool, ◌&&◌, List, [], ◌∷◌, ℕ, zero, suc, eqb, length, drop, get_or}
-use Rattle.std.proofs.Math.Option.{Option, none, some}
+use Rattle.std.specs.Prelude.{Option, None, Some}
 use Rattle.lists.specs.Choice.{pick}
 use Rattle.x86.specs.Words.{same_word}
 use Rattle.text.specs.Literal.{escape, opening, literal_text}
@@ -24,4 +24,4 @@ read_off t = characters_of 80 (drop (length (opening (is_wide t))) t)
 unfoldable pub string_of : Token → Option (List ℕ)
 string_of t =
     let s = read_off t.bytes in
-    pick (eqb t.kind 5 && (is_string s && same_word (literal_text (is_wide t.bytes) s) t.bytes)) (some s) none
+    pick (eqb t.kind 5 && (is_string s && same_word (literal_text (is_wide t.bytes) s) t.bytes)) (Some s) None

@@ -1,25 +1,30 @@
 -- The parts of the call for the command table: what each answers and stores. It describes the code, and is not what a caller must believe:
 -- what the call promises is commands/specs/Called.
-use Rattle.std.specs.Prelude.{List, ◌≡◌, ℕ, zero, suc, leb, length, take}
-use Rattle.std.proofs.Math.Option.{Option, none, some}
+use Rattle.std.specs.Prelude.{List, ◌≡◌, ℕ, leb, length, take}
+use Rattle.std.specs.Prelude.{Option, None, Some}
+use Rattle.std.specs.Option.{unwrap_or}
 use Rattle.lists.specs.Choice.{ask}
 use Rattle.lists.specs.Put.{put}
 use Rattle.rows.specs.Lists.{Lists}
 use Rattle.commands.specs.Table.{Table, entries_from, table_of, bytes_in}
 
--- the bytes set for a call as a number: 0 if there are none, else 1 more than how many
-abbrev pub found_of : Option (List ℕ) → ℕ
-found_of none = 0
-found_of (some s) = suc (length s)
+-- how many bytes are set for a call
+abbrev pub found_of : Option (List ℕ) → Option ℕ
+found_of None = None
+found_of (Some s) = Some (length s)
 
 -- and the bytes themselves, from the start of a list on
-pub record Gives (n : ℕ) (out : List ℕ) (o : Option (List ℕ)) : Type 0 where
+pub record Gives (n : Option ℕ) (out : List ℕ) (o : Option (List ℕ)) : Type 0 where
   pub size : n ≡ found_of o
   pub bytes : take (length (bytes_in o)) out ≡ bytes_in o
 
-abbrev pub no_mark : ℕ → ℕ
-no_mark zero = 1
-no_mark (suc c) = 0
+-- none are 0 bytes
+abbrev pub count_of : Option ℕ → ℕ
+count_of o = unwrap_or o 0
+
+abbrev pub no_mark : Option ℕ → ℕ
+no_mark None = 1
+no_mark (Some n) = 0
 
 -- the table of the first m lines
 unfoldable pub made : Lists → List ℕ → List ℕ → ℕ → Table

@@ -1,6 +1,6 @@
 -- The command table of a listing's lines (#113): an entry for each call by the given name, and the table's three lists.
 use Rattle.std.specs.Prelude.{List, [], ◌∷◌, ◌++◌, map, ℕ, zero, suc, ◌+◌, ◌*◌, eqb, length}
-use Rattle.std.proofs.Math.Option.{Option, none, some}
+use Rattle.std.specs.Prelude.{Option, None, Some}
 use Rattle.lists.specs.Choice.{pick}
 use Rattle.rows.specs.Lists.{Lists}
 use Rattle.rows.specs.Rows.{row_at}
@@ -13,17 +13,17 @@ pub record Entry : Type 0 where
 
 module _ (l : Lists) (register : List ℕ) where
   -- "the last earlier line of the same block, after the block's previous call line, whose first token is that register": of the lines before
-  -- line i and the block at place p. It is told by how many lines there are up to it, itself counted: 0 if there is none.
-  unfoldable pub line_before : ℕ → ℕ → ℕ
-  line_before p zero = 0
+  -- line i and the block at place p
+  unfoldable pub line_before : ℕ → ℕ → Option ℕ
+  line_before p zero = None
   line_before p (suc i) =
       let r = row_at l i in
-      pick (eqb r.place p) (pick (is_call r) 0 (pick (begins_with register r) (suc i) (line_before p i))) (line_before p i)
+      pick (eqb r.place p) (pick (is_call r) None (pick (begins_with register r) (Some i) (line_before p i))) (line_before p i)
 
   -- "or no such line gives none"
-  abbrev pub given_by : ℕ → Option (List ℕ)
-  given_by zero = none
-  given_by (suc i) = given (row_at l i)
+  abbrev pub given_by : Option ℕ → Option (List ℕ)
+  given_by None = None
+  given_by (Some i) = given (row_at l i)
 
   -- the bytes set for the call on line k
   unfoldable pub bytes_for : ℕ → Option (List ℕ)
@@ -48,13 +48,13 @@ abbrev pub table_lists : (bytes rows addresses : List ℕ) → Table
 table_lists b r a = record { bytes = b; rows = r; addresses = a }
 
 abbrev pub bytes_in : Option (List ℕ) → List ℕ
-bytes_in none = []
-bytes_in (some s) = s
+bytes_in None = []
+bytes_in (Some s) = s
 
 -- "plus 1 if none"
 abbrev pub none_mark : Option (List ℕ) → ℕ
-none_mark none = 1
-none_mark (some s) = 0
+none_mark None = 1
+none_mark (Some s) = 0
 
 unfoldable pub all_bytes : List Entry → List ℕ
 all_bytes [] = []

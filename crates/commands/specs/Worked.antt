@@ -1,7 +1,7 @@
 -- Worked examples of the command table: a line that sets a register, call lines, and what each call finds.
 -- Each is computed from the definitions.
 use Rattle.std.specs.Prelude.{◌≡◌, refl, true, List, [], ◌∷◌, ℕ, length}
-use Rattle.std.proofs.Math.Option.{none, some}
+use Rattle.std.specs.Prelude.{None, Some}
 use Prim.Native.String.{String}
 use Rattle.lists.specs.Ascii.{ascii}
 use Rattle.text.specs.Number.{digit, hex_digits}
@@ -31,35 +31,35 @@ abbrev found : List Row → List Entry
 found rs = entries_from (row_lists rs) (ascii "Send") (ascii "rdx") 0 (length rs)
 
 -- a string's bytes, also of a wide one; a backslash and a NUL are one byte each; a cut literal has none, nor has another spelling
-plain : string_of (literal "\"FA\\r\"") ≡ some (70 ∷ 65 ∷ 13 ∷ [])
+plain : string_of (literal "\"FA\\r\"") ≡ Some (70 ∷ 65 ∷ 13 ∷ [])
 unfolding string_of characters_of literal_text opening closing escapes escape unseen
 plain = refl
 
-wide : string_of (literal "L\"\\\\\\0\"") ≡ some (92 ∷ 0 ∷ [])
+wide : string_of (literal "L\"\\\\\\0\"") ≡ Some (92 ∷ 0 ∷ [])
 unfolding string_of characters_of literal_text opening closing escapes escape unseen
 wide = refl
 
-other : string_of (literal "\"\\u{0}\"") ≡ none
+other : string_of (literal "\"\\u{0}\"") ≡ None
 unfolding string_of characters_of literal_text opening closing escapes escape unseen
 other = refl
 
 -- the call takes the literal that was set last in its block
-sent : found (sets 0x1000 0 "\"A\"" ∷ sets 0x1008 0 "\"FA\\r\"" ∷ calls 0x1010 0 "Send" ∷ []) ≡ record { address = 0x1010; bytes = some (70 ∷ 65 ∷ 13 ∷ []) } ∷ []
+sent : found (sets 0x1000 0 "\"A\"" ∷ sets 0x1008 0 "\"FA\\r\"" ∷ calls 0x1010 0 "Send" ∷ []) ≡ record { address = 0x1010; bytes = Some (70 ∷ 65 ∷ 13 ∷ []) } ∷ []
 unfolding entries_from bytes_for line_before is_call calls_to begins_with given row_at line_at token_at row_lists all_tokens token_counts text_of ends_from kinds_of string_of characters_of literal_text opening closing escapes escape unseen
 sent = refl
 
 -- another call in between takes it away, and so does another block
-across : found (sets 0x1000 0 "\"A\"" ∷ calls 0x1008 0 "Other" ∷ calls 0x1010 0 "Send" ∷ []) ≡ record { address = 0x1010; bytes = none } ∷ []
+across : found (sets 0x1000 0 "\"A\"" ∷ calls 0x1008 0 "Other" ∷ calls 0x1010 0 "Send" ∷ []) ≡ record { address = 0x1010; bytes = None } ∷ []
 unfolding entries_from bytes_for line_before is_call calls_to begins_with given row_at line_at token_at row_lists all_tokens token_counts text_of ends_from kinds_of string_of characters_of literal_text opening closing escapes escape unseen
 across = refl
 
-apart : found (sets 0x1000 0 "\"A\"" ∷ calls 0x1010 1 "Send" ∷ []) ≡ record { address = 0x1010; bytes = none } ∷ []
+apart : found (sets 0x1000 0 "\"A\"" ∷ calls 0x1010 1 "Send" ∷ []) ≡ record { address = 0x1010; bytes = None } ∷ []
 unfolding entries_from bytes_for line_before is_call calls_to begins_with given row_at line_at token_at row_lists all_tokens token_counts text_of ends_from kinds_of string_of characters_of literal_text opening closing escapes escape unseen
 apart = refl
 
 -- a table of three entries, one of them without bytes and one of an empty literal
 abbrev three : Table
-three = table_of (record { address = 0x1010; bytes = some (70 ∷ 65 ∷ []) } ∷ record { address = 0x1020; bytes = none } ∷ record { address = 0x1030; bytes = some [] } ∷ [])
+three = table_of (record { address = 0x1010; bytes = Some (70 ∷ 65 ∷ []) } ∷ record { address = 0x1020; bytes = None } ∷ record { address = 0x1030; bytes = Some [] } ∷ [])
 
 lists : three ≡ table_lists (70 ∷ 65 ∷ []) (4 ∷ 5 ∷ 4 ∷ []) (0x1010 ∷ 0x1020 ∷ 0x1030 ∷ [])
 unfolding table_of all_bytes row_numbers

@@ -30,8 +30,8 @@ fn put_pairs(out: &mut [u8], at: usize, s: &[u8]) -> usize
     ensures { Wrote at (pairs s.now) out.old out.new result }
 {
     let mut p = at;
-    for i in 0..s.len() {
-        p = put_pair(out, p, s[i]);
+    for &b in s {
+        p = put_pair(out, p, b);
     }
     p
 }

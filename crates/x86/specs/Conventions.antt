@@ -13,15 +13,15 @@ abbrev pub microsoft : List ℕ
 microsoft = qword 1 ∷ qword 2 ∷ qword 8 ∷ qword 9 ∷ []
 
 -- System V AMD64
-abbrev pub system_vNames : List (List ℕ)
-system_vNames = words_of "rdi rsi rdx rcx r8 r9"
+abbrev pub system_v_names : List (List ℕ)
+system_v_names = words_of "rdi rsi rdx rcx r8 r9"
 
 abbrev pub system_v : List ℕ
 system_v = qword 7 ∷ qword 6 ∷ qword 2 ∷ qword 1 ∷ qword 8 ∷ qword 9 ∷ []
 
 -- "convention (0 Microsoft x64, 1 System V)"
 abbrev pub argument_names : ℕ → List (List ℕ)
-argument_names convention = pick (eqb convention 0) microsoft_names system_vNames
+argument_names convention = pick (eqb convention 0) microsoft_names system_v_names
 
 unfoldable pub argument_registers : ℕ → List ℕ
 argument_registers convention = pick (eqb convention 0) microsoft system_v
@@ -31,7 +31,7 @@ pub arguments_named : (convention : ℕ) → map register_name (argument_registe
 unfolding argument_registers register_name register_names
 arguments_named convention = go (eqb convention 0)
   where
-    go : (b : Bool) → map register_name (pick b microsoft system_v) ≡ pick b microsoft_names system_vNames
+    go : (b : Bool) → map register_name (pick b microsoft system_v) ≡ pick b microsoft_names system_v_names
     go true = refl
     go false = refl
 

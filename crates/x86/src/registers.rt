@@ -1,9 +1,9 @@
 // Registers by number: class × 16 + index, 0 for none.
 ghost use Rattle.std.specs.Prelude.{◌≡◌};
 ghost use Rattle.x86.specs.Registers.{class_size, register_exists, full_register, register_size, callee_saved};
-ghost use Rattle.x86.specs.Table.{missing_table, isa_bytes};
+ghost use Rattle.x86.specs.Table.{missing_table};
 
-use super::table::column;
+use super::table::Isa;
 use lists::reads::plain_u8;
 
 const CLASS_SIZES: [u16; 10] = [0, 16, 4, 16, 16, 16, 2, 6, 16, 16];
@@ -53,31 +53,34 @@ pub fn missing_table() -> MissingTable
     MISSING
 }
 
+// That table, lent.
+#[derive(Clone, Copy)]
+pub struct Missing<'a> {
+    pub bytes: &'a [u8],
+    pub ghost whole: { bytes.now ≡ missing_table },
+}
+
 // Whether a byte is a register's number, by one read.
-pub fn register_known(missing: &[u8], r: u8) -> bool
-    requires { missing.now ≡ missing_table }
+pub fn register_known(missing: Missing<'_>, r: u8) -> bool
     ensures { result ≡ register_exists r }
 {
-    plain_u8(missing, r as usize) == 0
+    plain_u8(missing.bytes, r as usize) == 0
 }
 
-pub fn full_register(isa: &[u8], r: u8) -> u8
-    requires { isa.now ≡ isa_bytes }
+pub fn full_register(isa: Isa<'_>, r: u8) -> u8
     ensures { result ≡ full_register r }
 {
-    column(isa, 6, 8, 160, r, r)
+    isa.column(6, 8, 160, r, r)
 }
 
-pub fn register_size(isa: &[u8], r: u8) -> u8
-    requires { isa.now ≡ isa_bytes }
+pub fn register_size(isa: Isa<'_>, r: u8) -> u8
     ensures { result ≡ register_size r }
 {
-    column(isa, 7, 8, 160, r, 0)
+    isa.column(7, 8, 160, r, 0)
 }
 
 // rbx rbp rsi rdi and r12 to r15, or a part of one.
-pub fn callee_saved(isa: &[u8], r: u8) -> bool
-    requires { isa.now ≡ isa_bytes }
+pub fn callee_saved(isa: Isa<'_>, r: u8) -> bool
     ensures { result ≡ callee_saved r }
 {
     let f = full_register(isa, r);

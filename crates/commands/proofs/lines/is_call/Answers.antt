@@ -1,18 +1,20 @@
 -- Whether a line is a call line: `is_call` meets its contract.
 -- By the tests of the definition, of which the code makes two before the others.
+use mathlib.Core.Path.{◌≡◌, ap, ◌∙◌}
+use Rattle.lists.specs.Ascii.{ascii}
+use Rattle.x86.specs.Words.{same_word}
 use Rattle.commands.proofs.Asked.{addressed, not_addressed, no_address, call_told, other_kinds}
+use Rattle.commands.proofs.Same.{same_pointwise}
 use Rattle.commands.proofs.lines.is_call.Goals as goal
+
+pub returns-then-element_or-lt256 : goal.returns-then-element_or-lt256
+returns-then-element_or-lt256 c = rw (← c.l.view_is) (no_address _ (not_addressed _ _ _ c.element_or.ensures c.if-element_or-lt256.true))
 
 pub returns-then-kind_of : goal.returns-then-kind_of
 returns-then-kind_of c =
-    let d = c in
-    let e = d in
-    λ a p.
-    call_told _ _ _ (e.kind_of.ensures _ _ a _ p) (d.kind_of-then-element_or-ge256.ensures _ _ a _ p) _ _ _ _ (addressed _ _ _ e.u16_in.ensures.0 e.if-element_or-ge256.true)
-    d.if-kind_of.true (d.text_of.ensures _ a _ p) c.same_text.ensures (c.text_of-then-kind_of.ensures _ a _ p) c.u8_at.ensures.0
-
-pub returns-then-element_or-ge256 : goal.returns-then-element_or-ge256
-returns-then-element_or-ge256 c = λ a p. other_kinds _ _ _ (c.kind_of.ensures _ _ a _ p) (c.kind_of-then-element_or-ge256.ensures _ _ a _ p) c.if-kind_of.false
+    let e : c.eq.result ≡ same_word c.text_of.result.now (ascii " = ") = c.eq.ensures ∙ same_pointwise c.text_of.result.now c.as_slice.result.now ∙ ap (same_word c.text_of.result.now) c.as_slice.ensures in
+    call_told _ _ _ c.kind_of.ensures c.kind_of-2.ensures _ _ _ _ (addressed c.args.l.now c.args.i c.element_or.result (rw (← c.l.view_is) c.element_or.ensures) c.if-element_or-lt256.false)
+    c.if-kind_of.true c.text_of.ensures e c.text_of-then-kind_of.ensures c.u8_at.ensures.0
 
 pub returns : goal.returns
-returns c = λ a p. no_address _ (not_addressed _ _ _ c.element_or.ensures c.if-element_or-ge256.false)
+returns c = other_kinds _ _ _ c.kind_of.ensures c.kind_of-2.ensures c.if-kind_of.false

@@ -4,11 +4,9 @@ use native.Mathlib.Omega.{arith}
 use Rattle.commands.proofs.Tokens.{kind_in_lem, kind_past}
 use Rattle.commands.proofs.lines.kind_of.Goals as goal
 
-pub returns-then-k-e : goal.returns-then-k-e
-returns-then-k-e c = λ x e a m p. kind_in_lem x e _ a m p _ _ _ _ _ c.end_at-n.ensures c.end_at-e.ensures _ c.if-k-e.true c.u8_at.ensures.0
+pub returns-then-k-saturating_sub : goal.returns-then-k-saturating_sub
+returns-then-k-saturating_sub c =
+    rw (← c.l.view_is) (kind_in_lem _ _ _ _ _ c.end_at-n.ensures c.end_at-e.ensures _ (omega (arith, c.saturating_sub.ensures, c.if-k-saturating_sub.true)) c.u8_at.ensures.0)
 
-pub returns-else-k-e : goal.returns-else-k-e
-returns-else-k-e c = λ x e a m p. kind_past x e _ a m p _ _ _ _ _ c.end_at-n.ensures c.end_at-e.ensures (omega (arith, c.if-k-e.false))
-
-pub returns-else-n-e : goal.returns-else-n-e
-returns-else-n-e c = λ x e a m p. kind_past x e _ a m p _ _ _ _ _ c.end_at-n.ensures c.end_at-e.ensures (omega (arith, c.if-n-e.false))
+pub returns : goal.returns
+returns c = rw (← c.l.view_is) (kind_past _ _ _ _ _ c.end_at-n.ensures c.end_at-e.ensures (omega (arith, c.saturating_sub.ensures, c.if-k-saturating_sub.false)))

@@ -3,16 +3,14 @@
 use native.Mathlib.Omega.{arith}
 use Rattle.commands.proofs.Tokens.{text_in, text_past}
 use Rattle.commands.proofs.lines.text_of.Goals as goal
-use Rattle.commands.proofs.lines.text_of.Goals.{then-n-e+else-k-e, else-n-e}
 
-pub returns-then-k-e : goal.returns-then-k-e
-returns-then-k-e c =
-    let d = c in
-    λ k a m p.
-    text_in _ _ k a m p _ _ _ _ _ d.end_at-n.ensures d.end_at-e.ensures _ _ _ d.if-k-e.true c.end_at.ensures c.end_at-then-k-e.ensures
-    c.text_between.ensures
+pub returns-then-k-saturating_sub : goal.returns-then-k-saturating_sub
+returns-then-k-saturating_sub c =
+    rw (← c.l.view_is)
+    (text_in _ _ _ _ _ c.end_at-n.ensures c.end_at-e.ensures _ _ _ (omega (arith, c.saturating_sub.ensures, c.if-k-saturating_sub.true))
+    c.end_at.ensures c.end_at-then-k-saturating_sub.ensures c.text_between.ensures)
 
 pub returns : goal.returns
 returns c =
-    λ k a m p.
-    text_past _ _ k a m p _ _ _ _ _ c.end_at-n.ensures c.end_at-e.ensures _ (elim c.if-n-e.branch [ then-n-e+else-k-e w ↦ omega arith | else-n-e w ↦ omega arith ]) c.part.ensures.0
+    rw (← c.l.view_is)
+    (text_past _ _ _ _ _ c.end_at-n.ensures c.end_at-e.ensures _ (omega (arith, c.saturating_sub.ensures, c.if-k-saturating_sub.false)) c.part.ensures.0)

@@ -5,10 +5,10 @@ use Rattle.commands.proofs.Printing.{pairs_more, pairs_none, pairs_all, pairs_ro
 use Rattle.commands.proofs.printed.put_pairs.Goals as goal
 
 pub put_pair-p-requires : goal.put_pair-p-requires
-put_pair-p-requires c = pairs_room _ c.loop-i.invariant c.loop-i-test.true c.requires
+put_pair-p-requires c = pairs_room _ c.loop-b.invariant c.loop-b-test.true c.requires
 
-pub loop-i-preserved : goal.loop-i-preserved
-loop-i-preserved c = go_turn c.loop-i.invariant (pairs_more _ _ c.loop-i-test.true) c.put_pair-p.ensures
+pub loop-b-preserved : goal.loop-b-preserved
+loop-b-preserved c = go_turn c.loop-b.invariant (pairs_more _ _ c.loop-b-test.true) c.put_pair-p.ensures
 
 pub returns : goal.returns
-returns c = rw pairs_all at (go_end c.loop-i.invariant (pairs_none _ _ c.loop-i-test.false))
+returns c = rw pairs_all at (go_end c.loop-b.invariant (pairs_none _ _ c.loop-b-test.false))

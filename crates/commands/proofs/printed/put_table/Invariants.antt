@@ -1,6 +1,5 @@
 -- The lines of a table: `put_table` meets its contract.
 -- What is left from here is one row's line and what is left behind it.
-use Prim.Native.Nat.{◌-◌}
 use Rattle.csv_rows.proofs.Going.{Going}
 use Rattle.commands.specs.Table.{table_lists}
 use Rattle.commands.proofs.Printing.{lines_from}

@@ -3,17 +3,11 @@
 use Rattle.commands.proofs.Given.{none_read, cut_read, whole_read}
 use Rattle.commands.proofs.set.read_string.Goals as goal
 
-pub returns-then-cut : goal.returns-then-cut
-returns-then-cut c =
-    let d = c in
-    cut_read _ _ _ _ _ d.requires d.read_literal.ensures _ _ _ c.in-String.is c.if-cut.true
+pub returns-then-v : goal.returns-then-v
+returns-then-v c = cut_read _ _ _ _ _ c.requires c.read_literal.ensures _ c.in-Ok.is c.if-v.true
 
-pub returns-in-String : goal.returns-in-String
-returns-in-String c =
-    let d = c in
-    whole_read _ _ _ _ _ d.requires d.read_literal.ensures _ _ _ c.in-String.is c.if-cut.false
+pub returns-else-v : goal.returns-else-v
+returns-else-v c = whole_read _ _ _ _ _ c.requires c.read_literal.ensures _ c.in-Ok.is c.if-v.false
 
-pub returns-in-No : goal.returns-in-No
-returns-in-No c =
-    let d = c in
-    none_read _ _ _ _ _ d.requires d.read_literal.ensures _ c.in-No.is
+pub returns-in-Err : goal.returns-in-Err
+returns-in-Err c = none_read _ _ _ _ _ c.requires c.read_literal.ensures _ c.in-Err.is

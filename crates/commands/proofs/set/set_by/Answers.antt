@@ -1,15 +1,18 @@
 -- What a line sets its first token to: `set_by` meets its contract.
 -- By its second token, and the string of its third.
+use mathlib.Core.Path.{◌≡◌, ap, ◌∙◌}
+use Rattle.lists.specs.Ascii.{ascii}
+use Rattle.x86.specs.Words.{same_word}
 use Rattle.commands.proofs.Given.{no_assign, assigned}
+use Rattle.commands.proofs.Same.{same_pointwise}
 use Rattle.commands.proofs.set.set_by.Goals as goal
 
-pub returns-then-same_text : goal.returns-then-same_text
-returns-then-same_text c =
-    let d = c in
-    let e = d in
-    λ a m p.
-    assigned _ _ _ (e.text_of.ensures _ a m p) e.same_text.ensures _ _ _ _ e.if-same_text.true (d.kind_of-kind.ensures _ _ a m p)
-    (d.text_of-then-same_text.ensures _ a m p) c.read_string.ensures
+pub returns-then-eq : goal.returns-then-eq
+returns-then-eq c =
+    let e : c.eq.result ≡ same_word c.text_of.result.now (ascii " = ") = c.eq.ensures ∙ same_pointwise c.text_of.result.now c.as_slice.result.now ∙ ap (same_word c.text_of.result.now) c.as_slice.ensures in
+    assigned _ _ _ c.text_of.ensures e _ _ _ _ c.if-eq.true c.kind_of.ensures c.text_of-then-eq.ensures c.read_string.ensures
 
 pub returns : goal.returns
-returns c = λ a m p. no_assign _ _ _ (c.text_of.ensures _ a m p) c.same_text.ensures _ c.if-same_text.false
+returns c =
+    let e : c.eq.result ≡ same_word c.text_of.result.now (ascii " = ") = c.eq.ensures ∙ same_pointwise c.text_of.result.now c.as_slice.result.now ∙ ap (same_word c.text_of.result.now) c.as_slice.ensures in
+    no_assign _ _ _ c.text_of.ensures e _ c.if-eq.false

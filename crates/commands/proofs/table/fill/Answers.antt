@@ -2,37 +2,33 @@
 -- The invariant `Storing`: to store what is left is to store all.
 use mathlib.Core.Path.{refl}
 use native.Mathlib.Omega.{arith}
-use Rattle.commands.proofs.Turns.{going_start, going_on, storing_start, storing_end, call_room, storing_call, storing_other}
+use Rattle.commands.proofs.Turns.{going_start, going_on, storing_start, storing_end, call_room, storing_call, storing_other, found_few}
 use Rattle.commands.proofs.table.fill.Goals as goal
+use Rattle.commands.proofs.table.fill.Goals.{then-calls_to, else-calls_to}
 
-pub loop-i-init : goal.loop-i-init
-loop-i-init c = let a = c in (going_start _ _ _ a.requires.lines refl, storing_start _ _ _ a.args.m _ _ _ a.requires.room)
+pub loop-k-init : goal.loop-k-init
+loop-k-init c = (going_start _ _ _ c.requires.lines refl, storing_start _ _ _ c.args.m _ _ _ c.requires.room)
 
 pub put_row-x-requires : goal.put_row-x-requires
-put_row-x-requires c =
-    let d = c in
-    let a = d.args in
-    call_room _ _ _ _ _ c.loop-i-test.true (c.calls_to.ensures a.addresses.now a.places.now) c.if-calls_to.true d.loop-i.invariant.1 (c.bytes_for-c.ensures.size.1 a.addresses.now)
+put_row-x-requires c = call_room _ _ _ _ _ c.loop-k-test.true c.calls_to.ensures c.if-calls_to.true c.loop-k.invariant.1 c.bytes_for-c.ensures.size
 
-pub loop-i-preserved-then-calls_to : goal.loop-i-preserved-then-calls_to
-loop-i-preserved-then-calls_to c =
-    let p = c in
-    let f = p.bytes_for-c in
-    let e = p.calls_to.ensures in
-    let h = p.loop-i-test.true in
-    let d = p in
-    let a = d.args in (
-      going_on d.loop-i.invariant.0 h _ _ (omega arith) (omega (arith, p.put_row-x.ensures.end, f.ensures.size.0)) f.auto.out,
-      storing_call _ _ _ _ _ h (e a.addresses.now a.places.now) p.if-calls_to.true d.loop-i.invariant.1 (f.ensures.size.1 a.addresses.now)
-          _ _ _ (f.ensures.bytes a.addresses.now) p.put_row-x.ensures.end p.put_row-x.ensures.bytes p.put_row-x.ensures.row c.element_or.ensures c.store.ensures,
-    )
-
-pub loop-i-preserved : goal.loop-i-preserved
-loop-i-preserved c =
-    let d = c in
-    let h = c.loop-i-test.true in
-    let a = d.args in
-    (going_on d.loop-i.invariant.0 h _ _ (omega arith) (omega arith) refl, storing_other _ _ _ _ _ h (c.calls_to.ensures a.addresses.now a.places.now) c.if-calls_to.false d.loop-i.invariant.1)
+pub loop-k-preserved : goal.loop-k-preserved
+loop-k-preserved c =
+    let h = c.loop-k-test.true in
+    elim c.if-calls_to.branch [
+      | then-calls_to w ↦
+          let f = w.bytes_for-c.ensures.size in
+          let q = found_few _ _ _ _ f in (
+            going_on c.loop-k.invariant.0 h _ _ (omega (arith, w.n-is)) (omega (arith, w.x-is, w.put_row-x.ensures.end, q)) (rw w.found-is w.bytes_for-c.auto.out),
+            rw (w.n-is, w.x-is, w.bytes-is, w.rows-is, w.calls-is)
+                (storing_call _ _ _ _ _ h c.calls_to.ensures w.if-calls_to.true c.loop-k.invariant.1 f _ _ _ w.bytes_for-c.ensures.bytes
+                w.put_row-x.ensures.end w.put_row-x.ensures.bytes w.put_row-x.ensures.row (rw (← c.l.view_is) w.element_or.ensures) w.store.ensures),
+          )
+      | else-calls_to w ↦ (
+        going_on c.loop-k.invariant.0 h _ _ (omega (arith, w.n-is)) (omega (arith, w.x-is)) (rw w.found-is refl),
+        rw (w.n-is, w.x-is, w.bytes-is, w.rows-is, w.calls-is) (storing_other _ _ _ _ _ h c.calls_to.ensures w.if-calls_to.false c.loop-k.invariant.1),
+      )
+    ]
 
 pub returns : goal.returns
-returns c = let w = c.loop-i.invariant in storing_end _ _ _ _ c.loop-i.i c.loop-i-test.false w.0.within w.1
+returns c = storing_end _ _ _ _ c.loop-k.k c.loop-k-test.false c.loop-k.invariant.0.within c.loop-k.invariant.1

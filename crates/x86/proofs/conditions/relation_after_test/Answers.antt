@@ -1,8 +1,9 @@
 -- `x86::conditions::relation_after_test` answers what the definition says of every number.
 -- The column of the table, at the number.
+use mathlib.Core.Path.{refl}
 use Rattle.x86.proofs.Columns.{condition_test}
 use Rattle.x86.proofs.conditions.relation_after_test.Goals as goal
 
 pub returns : goal.returns
 returns c =
-    rw c.column.ensures (condition_test c.args.isa.now c.requires _)
+    rw c.column.ensures (condition_test _ refl _)
