@@ -20,7 +20,7 @@ pub fn is_true_edge_to(edges: &[u16], i: Place, e: usize) -> bool
     requires { 2 * e + 1 < length edges.now }
     ensures { result ≡ true_edge_to edges.now i.0 e }
 {
-    (edges[2 * e] == i.0) & (edges[2 * e + 1] == 1)
+    (edges[2 * e] == i.0) && (edges[2 * e + 1] == 1)
 }
 
 // An edge to a place behind the first and before the second.
@@ -29,7 +29,7 @@ pub fn enters(edges: &[u16], from: Place, to: Place, e: usize) -> bool
     ensures { result ≡ enters edges.now from.0 to.0 e }
 {
     let t = Place(edges[2 * e]);
-    (from < t) & (t < to)
+    (from < t) && (t < to)
 }
 
 // An edge to a place that is not of kind Fall.
@@ -37,7 +37,7 @@ pub fn is_jump_to(edges: &[u16], i: Place, e: usize) -> bool
     requires { 2 * e + 1 < length edges.now }
     ensures { result ≡ jump_to edges.now i.0 e }
 {
-    (edges[2 * e] == i.0) & (edges[2 * e + 1] != 3)
+    (edges[2 * e] == i.0) && (edges[2 * e + 1] != 3)
 }
 
 // An edge to an address below the first, other than the excepted one.
@@ -46,7 +46,7 @@ pub fn leads_below(targets: &[u8], first: Address, excepted: Address, e: usize) 
     ensures { result ≡ (ltb (u64_at targets.now (8 * e)) first.0 && not (eqb (u64_at targets.now (8 * e)) excepted.0)) }
 {
     let target = Address(plain_u64(targets, 8 * e));
-    (target < first) & (target != excepted)
+    (target < first) && (target != excepted)
 }
 
 // The n edges from e on, up to the first that passes a test.
