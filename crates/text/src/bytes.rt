@@ -15,10 +15,8 @@ pub fn hex_byte(upper: bool, v: u64, j: usize) -> u8
     if n <= j {
         return 0;
     }
-    let mut i = n;
     let mut w = v;
-    while j + 1 < i {
-        i -= 1;
+    for _ in j + 1..n {
         w = w / 16;
     }
     digit_of(upper, w % 16)

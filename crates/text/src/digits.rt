@@ -12,17 +12,13 @@ fn write_hex(out: &mut [u8], upper: bool, v: u64) -> usize
     ensures count { (result ≡ length (hex_text upper v)) × (result ≤ 16) }
     ensures text { out.new ≡ put 0 (hex_text upper v) out.old }
 {
-    let mut i = hex_count(v);
+    let n = hex_count(v);
     let mut w = v;
-    let mut n: usize = 0;
-    while w >= 16 {
-        i -= 1;
+    for i in (0..n).rev() {
         out[i] = digit_of(upper, w % 16);
-        n += 1;
         w = w / 16;
     }
-    out[0] = digit_of(upper, w);
-    n + 1
+    n
 }
 
 // Below 10 one character, else 0x and hex behind it.
