@@ -22,6 +22,7 @@ fn write_hex(out: &mut [u8], upper: bool, v: u64) -> usize
 }
 
 // Below 10 one character, else 0x and hex behind it.
+#[tactic(auto, unfolding(crate::specs::Number::size_text))]
 fn write_size(out: &mut [u8], size: u64) -> usize
     requires { length (size_text size) ≤ length out.old }
     ensures count { (result ≡ length (size_text size)) × (result ≤ 18) }
@@ -41,6 +42,7 @@ fn write_size(out: &mut [u8], size: u64) -> usize
 }
 
 // A number by its sign and size.
+#[tactic(auto, unfolding(crate::specs::Number::num_text, crate::specs::Number::sign))]
 pub fn write_num(out: &mut [u8], negative: bool, size: u64) -> usize
     requires { length (num_text negative size) ≤ length out.old }
     ensures count { (result ≡ length (num_text negative size)) × (result ≤ 19) }

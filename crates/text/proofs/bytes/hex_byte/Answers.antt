@@ -8,9 +8,6 @@ use Rattle.text.specs.Number.{hex_text}
 use Rattle.text.proofs.ByteLaws.{hex_last, hex_fewer, hex_before}
 use Rattle.text.proofs.bytes.hex_byte.Goals as goal
 
-pub loop-init : goal.loop-init
-loop-init c = (omega (arith, c.hex_count-n.ensures.0 c.args.upper), refl)
-
 pub loop-preserved : goal.loop-preserved
 loop-preserved c =
     let l = c.loop in

@@ -5,9 +5,6 @@ use native.Mathlib.Omega.{arith}
 use Rattle.text.proofs.DigitLaws.{digit_turn, digits_stored}
 use Rattle.text.proofs.digits.write_hex.Goals as goal
 
-pub bounds-out-i : goal.bounds-out-i
-bounds-out-i c = omega (arith, c.hex_count-n.ensures.0 c.args.upper)
-
 pub loop-i-preserved : goal.loop-i-preserved
 loop-i-preserved c = digit_turn _ c.loop-i.i c.loop-i.w _ _ _ (omega arith) c.digit_of.ensures refl ∙ c.loop-i.invariant
 
