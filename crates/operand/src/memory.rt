@@ -51,6 +51,7 @@ fn prefix_word(size: u16) -> u8
 }
 
 // The word of a slot.
+#[tactic(auto, unfolding(tokens::specs::Words::word_token, tokens::specs::Words::words))]
 fn slot_word(sp: bool, negative: bool) -> u8
     ensures { (word_token result ≡ pick (sp || negative) (register "var_") (register "arg_")) × (result < 102) }
 {
@@ -70,12 +71,14 @@ fn registers_loose(h: Header, body: &[u8]) -> bool
 }
 
 // The word between registers and displacement.
+#[tactic(auto, unfolding(tokens::specs::Words::word_token, tokens::specs::Words::words))]
 fn sign_word(negative: bool) -> u8
     ensures { word_token result ≡ pick negative (punct " - ") (punct " + ") }
 {
     if negative { MINUS } else { PLUS }
 }
 
+#[tactic(auto, unfolding(crate::specs::Memory::address_expr))]
 fn address_loose(h: Header, body: &[u8]) -> bool
     ensures { result ≡ (address_expr h body.now).loose }
 {
