@@ -90,6 +90,7 @@ fn address_loose(h: Header, body: &[u8]) -> bool
 }
 
 // The word of a size that is read.
+#[tactic(auto, using(crate::proofs::WordNames::type_word_lem))]
 fn type_word(size: u16) -> u8
     ensures { word_token result ≡ type_word size }
 {
@@ -274,6 +275,7 @@ fn code_place(codes: &mut [u64], tables: Tables<'_>, h: Header, body: &[u8], der
 }
 
 // A memory operand, read or as an address.
+#[tactic(auto, unfolding(crate::specs::Memory::mem_tokens, crate::specs::Memory::mem_expr))]
 pub fn mem(codes: &mut [u64], tables: Tables<'_>, rec: &[u8], h: Header, body: &[u8], deref: bool)
     requires { Lent codes.old h rec.now }
     ensures { Coded table_bytes rec.now codes.old codes.new (mem_tokens h rec.now deref body.now) }

@@ -68,6 +68,7 @@ fn text_place(rec: &[u8], h: Header, k: u16) -> u32
 }
 
 // The token of entry k.
+#[tactic(auto, unfolding(crate::specs::Names::entry_token))]
 pub fn code_entry(codes: &mut [u64], rec: &[u8], h: Header, k: u16)
     requires { 5 ≤ length codes.old }
     ensures { (t : List ℕ) → Coded t rec.now codes.old codes.new (entry_token h rec.now k ∷ []) }
