@@ -12,11 +12,11 @@ use crate::edges::no_case;
 use crate::instructions::sets_no_branch;
 use crate::labels::all_labelled;
 use crate::names::{entries_plain, mnemonics_plain, no_flow_words};
-use codes::tables::{isa_of, tables};
+use codes::tables::{Tables, tables};
 use flow::planned::plan_record;
 use flow::rows::block_rows;
 use lists::parts::{from, part};
-use record::asked::{Asked, record};
+use record::asked::record;
 use record::header::{Header, read_header};
 use record::layout::{bodies_at, edge_kinds_at, pairs_at, size, targets_at, texts_at};
 
@@ -35,9 +35,9 @@ fn gotos_labelled(rec: &[u8], h: Header, blocks: &[u16]) -> bool
     ensures { result ≡ gotos_labelled h rec.now }
 {
     let made = tables();
-    let tables: &[u8] = &made;
+    let tables = Tables { bytes: &made };
     let mut plan = [0u64; 900];
-    let planned = plan_record(isa_of(tables), rec, h, blocks, 0, h.blocks, &mut plan);
+    let planned = plan_record(tables.isa(), rec, h, blocks, 0, h.blocks, &mut plan);
     all_labelled(blocks, part(&plan, 0, planned.next))
 }
 
@@ -147,7 +147,7 @@ pub fn check_record(rec: &[u8]) -> Checked
 {
     let to = size(read_header(rec).blocks);
     match record(rec, 0, to) {
-        Asked::No(n) => Checked::No(n),
-        Asked::Yes(h) => check_accepted(rec, h),
+        Err(q) => Checked::No(n),
+        Ok(h) => check_accepted(rec, h),
     }
 }

@@ -18,20 +18,19 @@ use rows::answer::Sizes;
 // Codes the lines, and answers how much they have, whether or not the list has room for all codes.
 pub fn code_plan(
     codes: &mut [u64],
-    tables: &[u8],
+    tables: Tables<'_>,
     rec: &[u8],
     h: Header,
-    rows: &[u8],
+    rows: Rows<'_>,
     blocks: &[u16],
     range: u16,
     plan: &[u64],
 ) -> Sizes
-    requires lent { Lent codes.old tables.now h rec.now }
-    requires rows_value { rows.now ≡ row_bytes }
+    requires lent { Lent codes.old h rec.now }
     requires blocks_value { blocks.now ≡ block_rows h rec.now }
     requires fits { Fits (printed h rec.now range 0 (map line_in plan.now)) }
     ensures sizes { result ≡ sizes_of (plan_lists h rec.now range (map line_in plan.now)) }
-    ensures codes { HoldsLines tables.now rec.now codes.new (printed h rec.now range 0 (map line_in plan.now)) }
+    ensures codes { HoldsLines table_bytes rec.now codes.new (printed h rec.now range 0 (map line_in plan.now)) }
 {
     start(codes);
     code_lines(codes, tables, rec, h, rows, blocks, range, 0, plan);

@@ -27,17 +27,16 @@ fn write_part(
     lines: &mut [u32],
     p: Cursor,
     codes: &mut [u64],
-    tables: &[u8],
+    tables: Tables<'_>,
     rec: &[u8],
     h: Header,
-    rows: &[u8],
+    rows: Rows<'_>,
     blocks: &[u16],
     range: u16,
     mask: u16,
     plan: &[u64],
 ) -> Cursor
-    requires lent { Lent codes.old tables.now h rec.now }
-    requires rows_value { rows.now ≡ row_bytes }
+    requires lent { Lent codes.old h rec.now }
     requires blocks_value { blocks.now ≡ block_rows h rec.now }
     requires plan_in_bounds { 5 + (2 * pushes_of (printed h rec.now range mask (map line_in plan.now)) + length plan.now) ≤ length codes.old }
     requires room { Room (length text.old) (length ends.old) (length kinds.old) (length lines.old) p (of_lines (printed h rec.now range mask (map line_in plan.now))) }
@@ -55,16 +54,15 @@ fn write_turns(
     ends: &mut [u32],
     kinds: &mut [u8],
     lines: &mut [u32],
-    tables: &[u8],
+    tables: Tables<'_>,
     rec: &[u8],
     h: Header,
-    rows: &[u8],
+    rows: Rows<'_>,
     blocks: &[u16],
     range: u16,
     plan: &[u64],
 )
-    requires tables_value { (tables.now ≡ table_bytes) × Rising h rec.now }
-    requires rows_value { rows.now ≡ row_bytes }
+    requires rising { Rising h rec.now }
     requires blocks_value { blocks.now ≡ block_rows h rec.now }
     requires fits { Fits (printed h rec.now range 0 (map line_in plan.now)) }
     requires holds { Holds (listing (printed h rec.now range 0 (map line_in plan.now))) text.old ends.old kinds.old lines.old }
@@ -106,20 +104,19 @@ pub fn write_plan(
     kinds: &mut [u8],
     lines: &mut [u32],
     codes: &[u64],
-    tables: &[u8],
+    tables: Tables<'_>,
     rec: &[u8],
     h: Header,
-    rows: &[u8],
+    rows: Rows<'_>,
     blocks: &[u16],
     range: u16,
     plan: &[u64],
 )
-    requires lent { Lent codes.now tables.now h rec.now }
-    requires rows_value { rows.now ≡ row_bytes }
+    requires lent { Lent codes.now h rec.now }
     requires blocks_value { blocks.now ≡ block_rows h rec.now }
     requires fits { Fits (printed h rec.now range 0 (map line_in plan.now)) }
     requires holds { Holds (listing (printed h rec.now range 0 (map line_in plan.now))) text.old ends.old kinds.old lines.old }
-    requires holds_lines { HoldsLines tables.now rec.now codes.now (printed h rec.now range 0 (map line_in plan.now)) }
+    requires holds_lines { HoldsLines table_bytes rec.now codes.now (printed h rec.now range 0 (map line_in plan.now)) }
     ensures { Printed (listing (printed h rec.now range 0 (map line_in plan.now))) text.old text.new
         ends.old ends.new kinds.old kinds.new lines.old lines.new }
 {
