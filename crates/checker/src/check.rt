@@ -14,7 +14,7 @@ use crate::edges::no_case;
 use crate::instructions::sets_no_branch;
 use crate::labels::all_labelled;
 use crate::names::{entries_plain, mnemonics_plain, no_flow_words};
-use codes::tables::{Tables, tables};
+use codes::tables::{Tables, token_table};
 use flow::planned::plan_record;
 use flow::rows::block_rows;
 use lists::parts::{from, part};
@@ -28,7 +28,7 @@ fn gotos_labelled(rec: &[u8], h: Header, blocks: &[u16]) -> bool
     requires blocks_value { blocks.now ≡ block_rows h rec.now }
     ensures { result ≡ gotos_labelled h rec.now }
 {
-    let made = tables();
+    let made = token_table();
     let tables = Tables { bytes: &made };
     let mut plan = [0u64; 900];
     let planned = plan_record(tables.isa(), rec, h, blocks, 0, h.blocks, &mut plan);

@@ -9,7 +9,7 @@ ghost use Rattle.comparison.specs.Pieces.{answer, chosen_tokens, line_answer, ha
 use crate::questions::record_first_no;
 use codes::read::codes_of;
 use codes::state::{put_end, start};
-use codes::tables::{Tables, tables};
+use codes::tables::{Tables, token_table};
 use expressions::condition::{body_of, condition};
 use operand::memory::mem;
 use operand::operand::op;
@@ -75,7 +75,7 @@ fn write_piece(
         (line_answer (chosen_tokens h rec.now first instruction what) text.old ends.old kinds.old)
         (answer text.old ends.old kinds.old 0) }
 {
-    let made = tables();
+    let made = token_table();
     let table = Tables { bytes: &made };
     let mut codes = [0u64; 86];
     code_piece(&mut codes, table, rec, h, first, instruction, what);

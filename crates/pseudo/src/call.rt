@@ -16,7 +16,7 @@ use crate::answered::{Answered, with_looks};
 use crate::coding::code_plan;
 use crate::marks::put_marks;
 use crate::writing::write_plan;
-use codes::tables::{Tables, tables};
+use codes::tables::{Tables, token_table};
 use flow::planned::plan_record;
 use flow::rows::block_rows;
 use line::rows::{Rows, row_table};
@@ -179,7 +179,7 @@ fn list_range(
         (lists_of text.new ends.new kinds.new addresses.new marks.new places.new lines.new) result.answer }
     ensures looks { LooksCounted rec.now from to result.answer result.looks }
 {
-    let table = tables();
+    let table = token_table();
     let tables = Tables { bytes: &table };
     let row = row_table();
     let rows = Rows { bytes: &row };

@@ -16,7 +16,7 @@ ghost use Rattle.pseudo.specs.Called.{Accepted, sizes, LooksCounted};
 
 use crate::answered::{Answered, with_looks};
 use crate::coding::code_plan;
-use codes::tables::{Tables, tables};
+use codes::tables::{Tables, token_table};
 use flow::planned::plan_record;
 use flow::rows::block_rows;
 use line::rows::{Rows, row_table};
@@ -75,7 +75,7 @@ fn size_accepted(rec: &[u8], h: Header, from: u16, to: u16) -> Answered
     ensures sizes { result.answer ≡ Ok (sizes rec.now from to) }
     ensures looks { LooksCounted rec.now from to result.answer result.looks }
 {
-    let made = tables();
+    let made = token_table();
     let tables = Tables { bytes: &made };
     let row = row_table();
     let rows = Rows { bytes: &row };

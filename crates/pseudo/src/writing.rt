@@ -45,7 +45,7 @@ fn write_part(
 {
     start(codes);
     code_lines(codes, tables, rec, h, rows, blocks, range, mask, plan);
-    write_codes(text, ends, kinds, lines, p, tables, rec, codes_of(codes))
+    write_codes(text, ends, kinds, lines, p, tables.bytes, rec, codes_of(codes))
 }
 
 // The lines one by one: the list of codes has room for any one of them.
@@ -121,7 +121,7 @@ pub fn write_plan(
         ends.old ends.new kinds.old kinds.new lines.old lines.new }
 {
     if codes[2] as usize <= codes.len() - 5 {
-        write_listing(text, ends, kinds, lines, tables, rec, codes_of(codes));
+        write_listing(text, ends, kinds, lines, tables.bytes, rec, codes_of(codes));
     } else {
         write_turns(
             text, ends, kinds, lines, tables, rec, h, rows, blocks, range, plan,

@@ -17,7 +17,7 @@ loop-i-init c = (length-replicate {A = ℕ} 16384 0, omega arith, refl, refl, re
 pub write_part-p-requires : goal.write_part-p-requires
 write_part-p-requires c = let a = c.args in
     let l = c.loop-i in
-    record { lent = record { room = omega (arith, c.loop-i.invariant.0); table = c.requires.tables_value.0; rising = c.requires.tables_value.1 }; rows_value = c.requires.rows_value; blocks_value = c.requires.blocks_value; plan_in_bounds = part_codes a.h a.rec.now a.range c.loop-i.mask c.loop-i.i (c.loop-i.i + 1 - c.loop-i.i) a.plan.now c.loop-i-test.true (omega arith) c.loop-i.invariant.6 _ c.loop-i.invariant.0; room = part_room a.h a.rec.now a.range c.loop-i.mask c.loop-i.i (c.loop-i.i + 1 - c.loop-i.i) a.plan.now c.loop-i-test.true (omega arith) c.loop-i.invariant.6 }
+    record { lent = record { room = omega (arith, c.loop-i.invariant.0); rising = c.requires.rising }; blocks_value = c.requires.blocks_value; plan_in_bounds = part_codes a.h a.rec.now a.range c.loop-i.mask c.loop-i.i (c.loop-i.i + 1 - c.loop-i.i) a.plan.now c.loop-i-test.true (omega arith) c.loop-i.invariant.6 _ c.loop-i.invariant.0; room = part_room a.h a.rec.now a.range c.loop-i.mask c.loop-i.i (c.loop-i.i + 1 - c.loop-i.i) a.plan.now c.loop-i-test.true (omega arith) c.loop-i.invariant.6 }
 
 pub loop-i-preserved : goal.loop-i-preserved
 loop-i-preserved c =
