@@ -42,19 +42,17 @@ pub fn read_edges(edges: &[u16], wanted: Wanted, e: usize, n: usize) -> Looked
     requires { 2 * (e + n) ≤ length edges.now }
     ensures { Reads (passes edges.now wanted) e n result }
 {
-    let mut m: usize = 0;
-    while m < n {
+    for m in 0..n {
         if is_wanted(edges, wanted, e + m) {
             return Looked {
                 found: true,
                 looks: m as u64 + 1,
             };
         }
-        m += 1;
     }
     Looked {
         found: false,
-        looks: m as u64,
+        looks: n as u64,
     }
 }
 
@@ -63,8 +61,7 @@ pub fn read_targets(targets: &[u8], first: Address, excepted: Address, e: usize,
     requires { 8 * (e + n) ≤ length targets.now }
     ensures { Reads (λ k. ltb (u64_at targets.now (8 * k)) first.0 && not (eqb (u64_at targets.now (8 * k)) excepted.0)) e n result }
 {
-    let mut k: usize = 0;
-    while k < n {
+    for k in 0..n {
         let target = Address(plain_u64(targets, 8 * (e + k)));
         if (target < first) & (target != excepted) {
             return Looked {
@@ -72,10 +69,9 @@ pub fn read_targets(targets: &[u8], first: Address, excepted: Address, e: usize,
                 looks: k as u64 + 1,
             };
         }
-        k += 1;
     }
     Looked {
         found: false,
-        looks: k as u64,
+        looks: n as u64,
     }
 }

@@ -18,12 +18,13 @@ word_at_lem t at =
     let f : at + 1 + 1 ≡ suc (suc at) = omega arith in
     rw (f, e)
 
-pub prefixed_word : (t s c c' : List ℕ) (w v kind n m : ℕ) → t ≡ table_bytes → w < 102 → kind ≡ u8_at t (32 * w) → n ≡ u8_at t (32 * w + 1) → m ≡ length (hex_text true v)
-    → Added c c' kind 4 0 (32 * w) (n + m) (v ∷ []) → Coded t s c c' (prefixed (word_token w) v ∷ [])
+pub prefixed_word : (s c c' : List ℕ) (w v kind n m : ℕ) → w < 102 → kind ≡ u8_at table_bytes (32 * w) → n ≡ u8_at table_bytes (32 * w + 1) → m ≡ length (hex_text true v)
+    → Added c c' kind 4 0 (32 * w) (n + m) (v ∷ []) → Coded table_bytes s c c' (prefixed (word_token w) v ∷ [])
 unfolding prefixed
-prefixed_word t s c c' w v kind n m e h p q l a =
-    let k : kind < 8 = rw p (word_kind t e w h) in
-    let u : token kind (word_at t (32 * w)) ≡ word_token w = rw (p, word_at_lem t (32 * w)) (word_is t e w h) in
-    let z : n ≡ length (word_at t (32 * w)) = rw (q, word_at_lem t (32 * w)) (word_size t e w h) in
+prefixed_word s c c' w v kind n m h p q l a =
+    let t = table_bytes in
+    let k : kind < 8 = rw p (word_kind w h) in
+    let u : token kind (word_at t (32 * w)) ≡ word_token w = rw (p, word_at_lem t (32 * w)) (word_is w h) in
+    let z : n ≡ length (word_at t (32 * w)) = rw (q, word_at_lem t (32 * w)) (word_size w h) in
     let y : n + m ≡ length (word_at t (32 * w) ++ hex_text true v) = rw length-append (omega (arith, z, l)) in
     as_token _ _ (ap (λ (x : Token). token x.kind (x.bytes ++ hex_text true v)) u) (prefixed_coded t s c c' kind k (32 * w) (n + m) v a y)

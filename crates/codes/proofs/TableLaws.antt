@@ -29,14 +29,6 @@ sized t at = eqb (u8_at t at) (length (text_at t at))
 abbrev Sized : List ℕ → ℕ → Type 0
 Sized t at = u8_at t at ≡ length (text_at t at)
 
-word_sizes : (w : ℕ) → w < 102 → Sized table_bytes (32 * w + 1)
-unfolding table_bytes word_bytes words
-word_sizes w h = eqb→eq _ _ (below_at (λ w. sized table_bytes (32 * w + 1)) 102 tt w h)
-
-word_kinds : (w : ℕ) → w < 102 → u8_at table_bytes (32 * w) < 8
-unfolding table_bytes word_bytes words
-word_kinds w h = ltb→lt _ _ (below_at (λ w. ltb (u8_at table_bytes (32 * w)) 8) 102 tt w h)
-
 -- behind the words
 drop_behind : (a b : List ℕ) (n m : ℕ) → m ≡ length a + n → drop m (a ++ b) ≡ drop n b
 drop_behind [] b n m e = let q : m ≡ n = omega arith in rw q
@@ -76,42 +68,40 @@ isa_size : length isa_bytes ≡ 2152
 unfolding isa_bytes register_table mnemonic_table condition_table register_names register_name mnemonic_names mnemonic_name
 isa_size = refl
 
-table_size : length table_bytes ≡ 5416
+pub table_size : length table_bytes ≡ 5416
 unfolding table_bytes
 table_size = omega (arith, length-append word_bytes isa_bytes, size, isa_size)
 
--- the table as it is lent
-module _ (t : List ℕ) (e : t ≡ table_bytes) where
-  pub bytes : length t ≡ 5416
-  bytes = rw e table_size
+-- Registers, mnemonics and conditions, read from the table as it is lent.
+pub isa_is : (t r : List ℕ) → t ≡ table_bytes → r ≡ drop 3264 t → r ≡ isa_bytes
+isa_is t r e h = h ∙ rw e isa_behind
 
-  pub isa_is : (r : List ℕ) → r ≡ drop 3264 t → r ≡ isa_bytes
-  isa_is r h = h ∙ rw e isa_behind
+module _ (w : ℕ) (h : w < 102) where
+  pub word_is : token (u8_at table_bytes (32 * w)) (text_at table_bytes (32 * w + 1)) ≡ word_token w
+  unfolding row
+  word_is = word_row w h
 
-  module _ (w : ℕ) (h : w < 102) where
-    pub word_is : token (u8_at t (32 * w)) (text_at t (32 * w + 1)) ≡ word_token w
-    unfolding row
-    word_is = rw e (word_row w h)
+  pub word_kind : u8_at table_bytes (32 * w) < 8
+  unfolding table_bytes word_bytes words
+  word_kind = ltb→lt _ _ (below_at (λ w. ltb (u8_at table_bytes (32 * w)) 8) 102 tt w h)
 
-    pub word_kind : u8_at t (32 * w) < 8
-    word_kind = rw e (word_kinds w h)
+  pub word_size : Sized table_bytes (32 * w + 1)
+  unfolding table_bytes word_bytes words
+  word_size = eqb→eq _ _ (below_at (λ w. sized table_bytes (32 * w + 1)) 102 tt w h)
 
-    pub word_size : Sized t (32 * w + 1)
-    word_size = rw e (word_sizes w h)
+module _ (r : ℕ) (h : r < 160) where
+  pub register_is : text_at table_bytes (3264 + 8 * r) ≡ register_name r
+  register_is = text_at_lem _ (8 * r) refl ∙ register_spelt isa_bytes refl r h
 
-  module _ (r : ℕ) (h : r < 160) where
-    pub register_is : text_at t (3264 + 8 * r) ≡ register_name r
-    register_is = rw e (text_at_lem _ (8 * r) refl ∙ register_spelt isa_bytes refl r h)
+  pub register_size_lem : Sized table_bytes (3264 + 8 * r)
+  register_size_lem = size_at _ (8 * r) refl (register_sizes r h)
 
-    pub register_size_lem : Sized t (3264 + 8 * r)
-    register_size_lem = rw e (size_at _ (8 * r) refl (register_sizes r h))
+module _ (m : ℕ) (h : m < 46) where
+  pub mnemonic_is : text_at table_bytes (4544 + 16 * m) ≡ mnemonic_name m
+  mnemonic_is = text_at_lem _ (1280 + 16 * m) (omega arith) ∙ mnemonic_spelt isa_bytes refl m h
 
-  module _ (m : ℕ) (h : m < 46) where
-    pub mnemonic_is : text_at t (4544 + 16 * m) ≡ mnemonic_name m
-    mnemonic_is = rw e (text_at_lem _ (1280 + 16 * m) (omega arith) ∙ mnemonic_spelt isa_bytes refl m h)
-
-    pub mnemonic_size : Sized t (4544 + 16 * m)
-    mnemonic_size = rw e (size_at _ (1280 + 16 * m) (omega arith) (mnemonic_sizes m h))
+  pub mnemonic_size : Sized table_bytes (4544 + 16 * m)
+  mnemonic_size = size_at _ (1280 + 16 * m) (omega arith) (mnemonic_sizes m h)
 
 -- past the last word
 pub no_word : (w : ℕ) → 102 ≤ w → token 0 [] ≡ word_token w

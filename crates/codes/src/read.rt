@@ -33,53 +33,39 @@ pub fn width(c: u64) -> usize
 }
 
 // How many bytes the text of a code has.
+#[tactic(auto, unfolding(crate::specs::Code::text_in))]
 fn length_in(tables: &[u8], rec: &[u8], c: u64, v: u64) -> usize
     ensures { result ≡ length (text_in tables.now rec.now c v) }
 {
     let what = c / 16 % 16;
     let at = (c / 16777216) as usize;
     let n = (c / 256 % 65536) as usize;
-    if what == 0 {
-        return part(tables, at, n).len();
+    match what {
+        0 => part(tables, at, n).len(),
+        1 => part(rec, at, n).len(),
+        2 => num_length(false, v),
+        3 => num_length(true, v),
+        4 => part(tables, at + 2, u8_at(tables, at + 1) as usize).len() + hex_count(v),
+        _ => literal_length(what == 6, part(rec, at, n)),
     }
-    if what == 1 {
-        return part(rec, at, n).len();
-    }
-    if what == 2 {
-        return num_length(false, v);
-    }
-    if what == 3 {
-        return num_length(true, v);
-    }
-    if what == 4 {
-        return part(tables, at + 2, u8_at(tables, at + 1) as usize).len() + hex_count(v);
-    }
-    literal_length(what == 6, part(rec, at, n))
 }
 
 // Byte j of the text of a code; past its end 0.
+#[tactic(auto, unfolding(crate::specs::Code::text_in))]
 fn byte_in(tables: &[u8], rec: &[u8], c: u64, v: u64, j: usize) -> u8
     ensures { result ≡ slice_index (text_in tables.now rec.now c v) j }
 {
     let what = c / 16 % 16;
     let at = (c / 16777216) as usize;
     let n = (c / 256 % 65536) as usize;
-    if what == 0 {
-        return u8_at(part(tables, at, n), j);
+    match what {
+        0 => u8_at(part(tables, at, n), j),
+        1 => u8_at(part(rec, at, n), j),
+        2 => num_byte(false, v, j),
+        3 => num_byte(true, v, j),
+        4 => prefixed_byte(part(tables, at + 2, u8_at(tables, at + 1) as usize), v, j),
+        _ => literal_byte(what == 6, part(rec, at, n), j),
     }
-    if what == 1 {
-        return u8_at(part(rec, at, n), j);
-    }
-    if what == 2 {
-        return num_byte(false, v, j);
-    }
-    if what == 3 {
-        return num_byte(true, v, j);
-    }
-    if what == 4 {
-        return prefixed_byte(part(tables, at + 2, u8_at(tables, at + 1) as usize), v, j);
-    }
-    literal_byte(what == 6, part(rec, at, n), j)
 }
 
 // How many bytes a code adds: the end of a line has none.

@@ -19,18 +19,12 @@ pub fn start(codes: &mut [u64])
     codes[4] = 0;
 }
 
-fn bit_of(b: bool) -> u64
-    ensures { result ≡ pick b 1 0 }
-{
-    if b { 1 } else { 0 }
-}
-
 // All from here on counts as Text, or no more.
 pub fn set_plain(codes: &mut [u64], plain: bool)
     requires { 5 ≤ length codes.old }
     ensures { Plain codes.old codes.new plain }
 {
-    codes[4] = bit_of(plain);
+    codes[4] = u64::from(plain);
 }
 
 // The kind that a token of kind k counts as.
@@ -53,18 +47,11 @@ fn joins_last(last: u64, k: u64) -> bool
     (k == last) & ((joining >> k) % 2 == 1)
 }
 
-// How many tokens more there are.
-fn fresh_of(joins: bool) -> u64
-    ensures { (result ≡ pick joins 0 1) × (result ≤ 1) }
-{
-    if joins { 0 } else { 1 }
-}
-
 fn code_of(kind: u64, joins: bool, what: u8, size: u16, place: u32) -> u64
     requires { (kind < 8) × (what < 16) }
     ensures { result ≡ code_of kind joins what size place }
 {
-    kind + 8 * fresh_of(joins) + 16 * what as u64 + 256 * size as u64 + 16777216 * place as u64
+    kind + 8 * u64::from(!joins) + 16 * what as u64 + 256 * size as u64 + 16777216 * place as u64
 }
 
 // A token of so many bytes is counted, in n codes.
@@ -73,7 +60,7 @@ fn count_token(codes: &mut [u64], kind: u64, joins: bool, bytes: usize, n: u64)
     ensures { codes.new ≡ with_token codes.old kind joins bytes n }
 {
     let text = wrapping_add_u64(codes[0], bytes as u64);
-    let tokens = wrapping_add_u64(codes[1], fresh_of(joins));
+    let tokens = wrapping_add_u64(codes[1], u64::from(!joins));
     let count = wrapping_add_u64(codes[2], n);
     codes[0] = text;
     codes[1] = tokens;

@@ -1,16 +1,24 @@
 // The one lent table: the words, and behind them registers, mnemonics and conditions.
 ghost use Rattle.std.specs.Prelude.{◌≡◌};
-ghost use Rattle.x86.specs.Table.{isa_bytes};
 ghost use Rattle.codes.specs.Tables.{table_bytes};
 
 use lists::parts::from;
+use x86::table::Isa;
 
-// Registers, mnemonics and conditions.
-pub fn isa_of(tables: &[u8]) -> &[u8]
-    requires { tables.now ≡ table_bytes }
-    ensures { result.now ≡ isa_bytes }
-{
-    from(tables, 3264)
+// The table, as a caller lends it.
+#[derive(Clone, Copy)]
+pub struct Tables<'a> {
+    pub bytes: &'a [u8],
+    pub ghost whole: { bytes.now ≡ table_bytes },
+}
+
+impl<'a> Tables<'a> {
+    // Registers, mnemonics and conditions.
+    pub fn isa(self) -> Isa<'a> {
+        Isa {
+            bytes: from(self.bytes, 3264),
+        }
+    }
 }
 
 // 102 words of 32 bytes: kind, length, text. 160 registers of 8: length, name, full register, size. 46 mnemonics of 16: length, name, flag effect.
@@ -191,7 +199,7 @@ const TABLE: Table = *b"\
 ";
 
 // The table, to be lent.
-pub fn tables() -> Table
+pub fn token_table() -> Table
     ensures { result ≡ table_bytes }
 {
     TABLE

@@ -1,8 +1,8 @@
--- What both calls answer, by whether a question got a no.
--- With a number the list is as it was; else it has room for what is stored, and that is its first bytes.
-use mathlib.Core.Path.{◌≡◌, refl, ◌∙◌}
+-- What both calls store where no question gets a no.
+-- The list then has room for what is stored, and that is its first bytes.
+use mathlib.Core.Path.{◌≡◌, refl}
 use mathlib.Core.List.{List}
-use Prim.Native.Nat.{ℕ, zero, suc, ◌*◌, ◌≤◌, ◌+◌}
+use Prim.Native.Nat.{ℕ, ◌*◌, ◌≤◌, ◌+◌}
 use native.Mathlib.Omega.{arith}
 use borrow.Author.Tests.{leb-true}
 use lib.Dec.{leb}
@@ -17,7 +17,7 @@ use Rattle.record.specs.Asked.{sizes_no}
 use Rattle.record.proofs.AskedLaws.{later, passed}
 use Rattle.columns.specs.Columns.{rearranged}
 use Rattle.columns.specs.Called.{store_no, Stores}
-use Rattle.lists.specs.declared.stored.Stored.TheVariants.{Bytes, No}
+use Rattle.std.specs.Prelude.{Ok}
 use Rattle.columns.proofs.Restored.{is_rearranged}
 
 -- what a yes to all says
@@ -27,16 +27,12 @@ store_yes s room e =
     let p = later (sizes_no s) (ask 12 (leb (length s) room) 0) e in
     (p.0, leb-true (length s) room (passed 11 (leb (length s) room) 0 p.1).0)
 
-module _ (rows columns : Header → ℕ) (s out : List ℕ) where
-  pub refuses : (k : ℕ) → k ≡ store_no s (length out) → (k ≡ 0 → ⊥) → Stores rows columns s out out (No k)
-  refuses zero e p = absurd (p refl)
-  refuses (suc k) e p = record { answer = rw (← e); list = rw (← e); stored = λ z. absurd (p (e ∙ z)) }
-
-  pub stores : (out' : List ℕ) → store_no s (length out) ≡ 0 → columns (header_of s) * rows (header_of s) ≡ 92 * (header_of s).instructions
-      → out' ≡ put 0 (rearranged rows columns s) out → Stores rows columns s out out' (Bytes (length s))
-  stores out' e all p =
-      let y = store_yes s (length out) e in
+-- what is stored
+module _ (rows columns : Header → ℕ) (s out out' : List ℕ) (yes : store_no s (length out) ≡ 0) (all : columns (header_of s) * rows (header_of s) ≡ 92 * (header_of s).instructions) (p : out' ≡ put 0 (rearranged rows columns s) out) where
+  pub stores : Stores rows columns s out out' (Ok (length s))
+  stores =
+      let y = store_yes s (length out) yes in
       let t = rearranged rows columns s in
       let r = is_rearranged rows columns s y.0 all in
       let whole : take (length s) out' ≡ t = rw (p, put_fits 0 t out (omega (arith, r.long, y.1))) (take_at t (drop (0 + length t) out) (length s) r.long) in
-      record { answer = rw e; list = rw e p; stored = λ _. rw whole r }
+      record { answer = (yes, refl); list = rw yes p; stored = λ _. rw whole r }

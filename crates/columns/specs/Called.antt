@@ -2,8 +2,9 @@
 use Rattle.std.specs.Prelude.{ℕ, ◌+◌, ◌*◌, ◌<◌, List, ◌≡◌, leb, length, take, drop}
 use Rattle.lists.specs.Bytes.{u8_at}
 use Rattle.lists.specs.Choice.{ask}
-use Rattle.lists.specs.Stored.{stored_for, left_in}
-use Rattle.lists.specs.declared.stored.Stored.{Stored}
+use Rattle.std.specs.declared.result.Result.{Result}
+use Rattle.lists.specs.Question.{Answers, left_in}
+use Rattle.lists.specs.declared.question.Question.{Question}
 use Rattle.record.specs.declared.header.Header.{Header}
 use Rattle.record.specs.Header.{header_of}
 use Rattle.record.specs.Layout.{bodies_at, entries_at}
@@ -29,7 +30,7 @@ pub record IsRearranged (rows columns : Header → ℕ) (s t : List ℕ) : Type 
   -- "The way back restores every byte."
   pub restored : rearranged columns rows t ≡ s
 
-pub record Stores (rows columns : Header → ℕ) (s out out' : List ℕ) (r : Stored) : Type 0 where
-  pub answer : r ≡ stored_for (store_no s (length out)) (length s)
+pub record Stores (rows columns : Header → ℕ) (s out out' : List ℕ) (r : Result ℕ Question) : Type 0 where
+  pub answer : Answers (store_no s (length out)) (length s) r
   pub list : out' ≡ left_in (store_no s (length out)) (rearranged rows columns s) out
   pub stored : store_no s (length out) ≡ 0 → IsRearranged rows columns s (take (length s) out')

@@ -16,7 +16,7 @@ use Rattle.x86.specs.Words.{same_word}
 use Rattle.codes.specs.Code.{decode}
 use Rattle.codes.specs.Coded.{count_in, codes_in, last_in, is_plain, counted, marked, Coded, Started}
 use Rattle.codes.specs.Spelled.{spelled}
-use Rattle.operand.proofs.Texts.{same_text, other_lengths}
+use Rattle.operand.proofs.Texts.{other_lengths}
 use Rattle.operand.specs.Alone.{Alone}
 
 -- tokens keep their texts, whatever they count as
@@ -65,9 +65,9 @@ module _ (t s c d x y : List ℕ) (p : Alone t s c x) (q : Alone t s d y) (n m :
     pub both_counts : n ≡ m → (n ≡ length (spelled (decode t s a))) × (n ≡ length (spelled (decode t s b)))
     both_counts h = (e ∙ p.bytes ∙ ap length (sym first_text), h ∙ f ∙ q.bytes ∙ ap length (sym second_text))
 
-    pub codes_same : (r : Bool) → r ≡ same_word a b → r ≡ true → true ≡ same_word x y
-    codes_same r h g =
-        let z : x ≡ y = sym first_text ∙ ap (λ (l : List ℕ). spelled (decode t s l)) (same_text a b (sym h ∙ g)) ∙ second_text in
+    pub codes_same : a ≡ b → true ≡ same_word x y
+    codes_same h =
+        let z : x ≡ y = sym first_text ∙ ap (λ (l : List ℕ). spelled (decode t s l)) h ∙ second_text in
         sym (same_self y) ∙ ap (λ (l : List ℕ). same_word l y) (sym z)
 
     pub texts_same : (r : Bool) → r ≡ same_word (spelled (decode t s a)) (spelled (decode t s b)) → r ≡ same_word x y

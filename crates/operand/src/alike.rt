@@ -12,37 +12,23 @@ ghost use Rattle.operand.specs.Alone.{Alone};
 use crate::operand::op;
 use codes::read::{codes_of, same_texts};
 use codes::state::start;
+use codes::tables::Tables;
 use lists::reads::element_or;
 use record::header::Header;
 
 // Operand i alone, from the first code on.
-fn code_alone(codes: &mut [u64], tables: &[u8], rec: &[u8], h: Header, body: &[u8], i: u8)
-    requires lent { Lent codes.old tables.now h rec.now }
+fn code_alone(codes: &mut [u64], tables: Tables<'_>, rec: &[u8], h: Header, body: &[u8], i: u8)
+    requires lent { Lent codes.old h rec.now }
     requires in_bounds { 33 ≤ length codes.old }
-    ensures { Alone tables.now rec.now codes.new (text_of (op_tokens h rec.now body.now i)) }
+    ensures { Alone table_bytes rec.now codes.new (text_of (op_tokens h rec.now body.now i)) }
 {
     start(codes);
     op(codes, tables, rec, h, body, i)
 }
 
-// Whether two lists hold the same numbers.
-fn same_codes(a: &[u64], b: &[u64]) -> bool
-    ensures { result ≡ same_word a.now b.now }
-{
-    if a.len() != b.len() {
-        return false;
-    }
-    for i in 0..a.len() {
-        if a[i] != b[i] {
-            return false;
-        }
-    }
-    true
-}
-
 // Whether the first two operands of a body print alike: each has at most 28 codes.
-pub fn alike(tables: &[u8], rec: &[u8], h: Header, body: &[u8]) -> bool
-    requires { (tables.now ≡ table_bytes) × Rising h rec.now }
+pub fn alike(tables: Tables<'_>, rec: &[u8], h: Header, body: &[u8]) -> bool
+    requires { Rising h rec.now }
     ensures { result ≡ alike h rec.now body.now }
 {
     let mut first = [0u64; 33];
@@ -55,8 +41,8 @@ pub fn alike(tables: &[u8], rec: &[u8], h: Header, body: &[u8]) -> bool
     }
     let a = codes_of(&first);
     let b = codes_of(&second);
-    if same_codes(a, b) {
+    if a == b {
         return true;
     }
-    same_texts(tables, rec, a, b, n as usize)
+    same_texts(tables.bytes, rec, a, b, n as usize)
 }

@@ -13,6 +13,7 @@ ghost use Rattle.operand.specs.Lent.{Lent};
 use crate::names::{code_entry, entry_at};
 use crate::slots::{displacement, is_slot, slot_base, slot_number};
 use codes::code::{code_num, code_prefixed, code_register, code_word};
+use codes::tables::Tables;
 use lists::parts::from;
 use record::atlas::entry_kind;
 use record::body::{
@@ -28,26 +29,17 @@ use x86::sizes::{prefix_index, size_index};
 use x86::width::is_stack_pointer;
 
 // The word that reads a segment register's memory.
+#[tactic(auto, unfolding(crate::specs::Memory::segment_word, tokens::specs::Words::word_token, tokens::specs::Words::words))]
 fn segment_word(seg: u8, size: u16) -> u8
     ensures { word_token result ≡ segment_word seg size }
 {
-    if seg == 0x75 {
-        if size == 8 {
-            return READ_GS_QWORD;
-        }
-        return if size == 4 {
-            READ_GS_DWORD
-        } else {
-            READ_GS_BYTE
-        };
-    }
-    if size == 8 {
-        return READ_FS_QWORD;
-    }
-    if size == 4 {
-        READ_FS_DWORD
-    } else {
-        READ_FS_BYTE
+    match (seg, size) {
+        (0x75, 8) => READ_GS_QWORD,
+        (0x75, 4) => READ_GS_DWORD,
+        (0x75, _) => READ_GS_BYTE,
+        (_, 8) => READ_FS_QWORD,
+        (_, 4) => READ_FS_DWORD,
+        _ => READ_FS_BYTE,
     }
 }
 
@@ -116,9 +108,9 @@ fn is_global(body: &[u8]) -> bool
 }
 
 // A number in parentheses.
-fn code_argument(codes: &mut [u64], tables: &[u8], v: u64)
-    requires { (5 ≤ length codes.old) × (tables.now ≡ table_bytes) }
-    ensures { (s : List ℕ) → Coded tables.now s codes.old codes.new (punct "(" ∷ number false v ∷ punct ")" ∷ []) }
+fn code_argument(codes: &mut [u64], tables: Tables<'_>, v: u64)
+    requires { 5 ≤ length codes.old }
+    ensures { (s : List ℕ) → Coded table_bytes s codes.old codes.new (punct "(" ∷ number false v ∷ punct ")" ∷ []) }
 {
     code_word(codes, tables, OPEN);
     code_num(codes, false, v);
@@ -126,9 +118,9 @@ fn code_argument(codes: &mut [u64], tables: &[u8], v: u64)
 }
 
 // A read by fs or gs.
-fn code_segment(codes: &mut [u64], tables: &[u8], body: &[u8])
-    requires { (5 ≤ length codes.old) × (tables.now ≡ table_bytes) }
-    ensures { (s : List ℕ) → Coded tables.now s codes.old codes.new (segment_read body.now) }
+fn code_segment(codes: &mut [u64], tables: Tables<'_>, body: &[u8])
+    requires { 5 ≤ length codes.old }
+    ensures { (s : List ℕ) → Coded table_bytes s codes.old codes.new (segment_read body.now) }
 {
     let w = segment_word(memory_segment(body), memory_size(body));
     code_word(codes, tables, w);
@@ -136,9 +128,9 @@ fn code_segment(codes: &mut [u64], tables: &[u8], body: &[u8])
 }
 
 // A word, or nothing.
-fn code_if(codes: &mut [u64], tables: &[u8], w: u8, wanted: bool)
-    requires { (5 ≤ length codes.old) × (tables.now ≡ table_bytes) }
-    ensures { (s : List ℕ) → Coded tables.now s codes.old codes.new (pick wanted (word_token w ∷ []) []) }
+fn code_if(codes: &mut [u64], tables: Tables<'_>, w: u8, wanted: bool)
+    requires { 5 ≤ length codes.old }
+    ensures { (s : List ℕ) → Coded table_bytes s codes.old codes.new (pick wanted (word_token w ∷ []) []) }
 {
     if wanted {
         return code_word(codes, tables, w);
@@ -146,29 +138,29 @@ fn code_if(codes: &mut [u64], tables: &[u8], w: u8, wanted: bool)
 }
 
 // A global that has an entry: only of a name is there an address.
-fn code_named(codes: &mut [u64], tables: &[u8], rec: &[u8], h: Header, k: u16, deref: bool)
-    requires { (5 ≤ length codes.old) × (tables.now ≡ table_bytes) }
-    ensures { Coded tables.now rec.now codes.old codes.new (address_of (deref || literal_at h rec.now (Some k)) (entry_token h rec.now k)) }
+fn code_named(codes: &mut [u64], tables: Tables<'_>, rec: &[u8], h: Header, k: u16, deref: bool)
+    requires { 5 ≤ length codes.old }
+    ensures { Coded table_bytes rec.now codes.old codes.new (address_of (deref || literal_at h rec.now (Some k)) (entry_token h rec.now k)) }
 {
     let plain = deref | (entry_kind(from(rec, pairs_at(h)), k) != 3);
     code_if(codes, tables, ADDRESS_OF, !plain);
-    code_entry(codes, tables, rec, h, k)
+    code_entry(codes, rec, h, k)
 }
 
 // A global that has none: word w is its prefix.
-fn code_unnamed(codes: &mut [u64], tables: &[u8], w: u8, va: u64, deref: bool)
-    requires in_bounds { (5 ≤ length codes.old) × (tables.now ≡ table_bytes) }
+fn code_unnamed(codes: &mut [u64], tables: Tables<'_>, w: u8, va: u64, deref: bool)
+    requires in_bounds { 5 ≤ length codes.old }
     requires w_bound { w < 102 }
-    ensures { (s : List ℕ) → Coded tables.now s codes.old codes.new (address_of deref (prefixed (word_token w) va)) }
+    ensures { (s : List ℕ) → Coded table_bytes s codes.old codes.new (address_of deref (prefixed (word_token w) va)) }
 {
     code_if(codes, tables, ADDRESS_OF, !deref);
     code_prefixed(codes, tables, w, va)
 }
 
 // A global: the atlas is searched once, for the `&` and for the token.
-fn code_global(codes: &mut [u64], tables: &[u8], rec: &[u8], h: Header, body: &[u8], deref: bool)
-    requires { Lent codes.old tables.now h rec.now }
-    ensures { Coded tables.now rec.now codes.old codes.new (global h rec.now deref body.now) }
+fn code_global(codes: &mut [u64], tables: Tables<'_>, rec: &[u8], h: Header, body: &[u8], deref: bool)
+    requires { Lent codes.old h rec.now }
+    ensures { Coded table_bytes rec.now codes.old codes.new (global h rec.now deref body.now) }
 {
     let va = memory_address(body);
     let w = prefix_word(memory_size(body));
@@ -179,9 +171,9 @@ fn code_global(codes: &mut [u64], tables: &[u8], rec: &[u8], h: Header, body: &[
 }
 
 // A stack slot.
-fn code_slot(codes: &mut [u64], tables: &[u8], h: Header, body: &[u8], deref: bool)
-    requires { (5 ≤ length codes.old) × (tables.now ≡ table_bytes) }
-    ensures { (s : List ℕ) → Coded tables.now s codes.old codes.new (address_of deref (slot_token h body.now)) }
+fn code_slot(codes: &mut [u64], tables: Tables<'_>, h: Header, body: &[u8], deref: bool)
+    requires { 5 ≤ length codes.old }
+    ensures { (s : List ℕ) → Coded table_bytes s codes.old codes.new (address_of deref (slot_token h body.now)) }
 {
     let n = slot_number(h, body);
     let w = slot_word(is_stack_pointer(h.bits, slot_base(h, body)), n.negative);
@@ -193,9 +185,9 @@ fn code_slot(codes: &mut [u64], tables: &[u8], h: Header, body: &[u8], deref: bo
 }
 
 // The index with its scale.
-fn code_scaled(codes: &mut [u64], tables: &[u8], body: &[u8])
-    requires { (5 ≤ length codes.old) × (tables.now ≡ table_bytes) }
-    ensures { (s : List ℕ) → Coded tables.now s codes.old codes.new (scaled body.now).tokens }
+fn code_scaled(codes: &mut [u64], tables: Tables<'_>, body: &[u8])
+    requires { 5 ≤ length codes.old }
+    ensures { (s : List ℕ) → Coded table_bytes s codes.old codes.new (scaled body.now).tokens }
 {
     code_register(codes, tables, memory_index(body));
     let scale = memory_index_scale(body);
@@ -206,9 +198,9 @@ fn code_scaled(codes: &mut [u64], tables: &[u8], body: &[u8])
 }
 
 // The index with its scale, or nothing.
-fn code_index(codes: &mut [u64], tables: &[u8], body: &[u8], wanted: bool)
-    requires { (5 ≤ length codes.old) × (tables.now ≡ table_bytes) }
-    ensures { (s : List ℕ) → Coded tables.now s codes.old codes.new (pick wanted (scaled body.now).tokens []) }
+fn code_index(codes: &mut [u64], tables: Tables<'_>, body: &[u8], wanted: bool)
+    requires { 5 ≤ length codes.old }
+    ensures { (s : List ℕ) → Coded table_bytes s codes.old codes.new (pick wanted (scaled body.now).tokens []) }
 {
     if wanted {
         return code_scaled(codes, tables, body);
@@ -216,9 +208,9 @@ fn code_index(codes: &mut [u64], tables: &[u8], body: &[u8], wanted: bool)
 }
 
 // The base, or nothing.
-fn code_base(codes: &mut [u64], tables: &[u8], base: u8, wanted: bool)
-    requires { (5 ≤ length codes.old) × (tables.now ≡ table_bytes) }
-    ensures { (s : List ℕ) → Coded tables.now s codes.old codes.new (pick wanted (register_token base ∷ []) []) }
+fn code_base(codes: &mut [u64], tables: Tables<'_>, base: u8, wanted: bool)
+    requires { 5 ≤ length codes.old }
+    ensures { (s : List ℕ) → Coded table_bytes s codes.old codes.new (pick wanted (register_token base ∷ []) []) }
 {
     if wanted {
         return code_register(codes, tables, base);
@@ -226,9 +218,9 @@ fn code_base(codes: &mut [u64], tables: &[u8], base: u8, wanted: bool)
 }
 
 // Base and index: a scaled index behind a base stands in parentheses.
-fn code_registers(codes: &mut [u64], tables: &[u8], h: Header, body: &[u8])
-    requires { (5 ≤ length codes.old) × (tables.now ≡ table_bytes) }
-    ensures { (s : List ℕ) → Coded tables.now s codes.old codes.new (registers h body.now).tokens }
+fn code_registers(codes: &mut [u64], tables: Tables<'_>, h: Header, body: &[u8])
+    requires { 5 ≤ length codes.old }
+    ensures { (s : List ℕ) → Coded table_bytes s codes.old codes.new (registers h body.now).tokens }
 {
     let base = slot_base(h, body);
     let index = memory_index(body);
@@ -243,9 +235,9 @@ fn code_registers(codes: &mut [u64], tables: &[u8], h: Header, body: &[u8])
 }
 
 // An address: in front of a displacement loose registers stand in parentheses.
-fn code_address(codes: &mut [u64], tables: &[u8], h: Header, body: &[u8])
-    requires { (5 ≤ length codes.old) × (tables.now ≡ table_bytes) }
-    ensures { (s : List ℕ) → Coded tables.now s codes.old codes.new (address_expr h body.now).tokens }
+fn code_address(codes: &mut [u64], tables: Tables<'_>, h: Header, body: &[u8])
+    requires { 5 ≤ length codes.old }
+    ensures { (s : List ℕ) → Coded table_bytes s codes.old codes.new (address_expr h body.now).tokens }
 {
     let d = displacement(h, body);
     let far = d.size != 0;
@@ -260,9 +252,9 @@ fn code_address(codes: &mut [u64], tables: &[u8], h: Header, body: &[u8])
 }
 
 // What registers and displacement lead to: read, with a loose address in parentheses, or as the address.
-fn code_place(codes: &mut [u64], tables: &[u8], h: Header, body: &[u8], deref: bool)
-    requires { (5 ≤ length codes.old) × (tables.now ≡ table_bytes) }
-    ensures { (s : List ℕ) → Coded tables.now s codes.old codes.new (address h deref body.now).tokens }
+fn code_place(codes: &mut [u64], tables: Tables<'_>, h: Header, body: &[u8], deref: bool)
+    requires { 5 ≤ length codes.old }
+    ensures { (s : List ℕ) → Coded table_bytes s codes.old codes.new (address h deref body.now).tokens }
 {
     let loose = deref & address_loose(h, body);
     code_if(codes, tables, type_word(memory_size(body)), deref);
@@ -272,9 +264,9 @@ fn code_place(codes: &mut [u64], tables: &[u8], h: Header, body: &[u8], deref: b
 }
 
 // A memory operand, read or as an address.
-pub fn mem(codes: &mut [u64], tables: &[u8], rec: &[u8], h: Header, body: &[u8], deref: bool)
-    requires { Lent codes.old tables.now h rec.now }
-    ensures { Coded tables.now rec.now codes.old codes.new (mem_tokens h rec.now deref body.now) }
+pub fn mem(codes: &mut [u64], tables: Tables<'_>, rec: &[u8], h: Header, body: &[u8], deref: bool)
+    requires { Lent codes.old h rec.now }
+    ensures { Coded table_bytes rec.now codes.old codes.new (mem_tokens h rec.now deref body.now) }
 {
     if is_segment_read(body) {
         return code_segment(codes, tables, body);

@@ -1,5 +1,5 @@
 // Names of addresses: the entry of the atlas, its token, and the spans.
-ghost use Rattle.std.specs.Prelude.{◌&&◌, [], ◌∷◌, ◌≡◌, ◌≤◌, ◌<◌, ◌+◌, ◌*◌, length, leb};
+ghost use Rattle.std.specs.Prelude.{◌&&◌, [], ◌∷◌, ◌≡◌, ◌≤◌, ◌<◌, ◌+◌, ◌*◌, List, ℕ, length, leb};
 ghost use Rattle.operand.specs.Names.{entry_at, entry_token, name_or, in_span};
 ghost use Rattle.operand.specs.Lent.{Rising};
 ghost use Rattle.lists.specs.Choice.{any_below};
@@ -8,8 +8,10 @@ ghost use Rattle.record.specs.Atlas.{text_start, span_first, span_last};
 ghost use Rattle.tokens.specs.Words.{word_token};
 ghost use Rattle.codes.specs.Coded.{Coded};
 ghost use Rattle.operand.specs.Lent.{Lent};
+ghost use Rattle.codes.specs.Tables.{table_bytes};
 
 use codes::code::{code_literal, code_part, code_prefixed};
+use codes::tables::Tables;
 use lists::parts::from;
 use lists::reads::plain_u64;
 use record::atlas::{entry_kind, entry_length, span_first, span_last, text_start};
@@ -64,28 +66,28 @@ fn text_place(rec: &[u8], h: Header, k: u16) -> u32
 }
 
 // The token of entry k.
-pub fn code_entry(codes: &mut [u64], tables: &[u8], rec: &[u8], h: Header, k: u16)
+pub fn code_entry(codes: &mut [u64], rec: &[u8], h: Header, k: u16)
     requires { 5 ≤ length codes.old }
-    ensures { Coded tables.now rec.now codes.old codes.new (entry_token h rec.now k ∷ []) }
+    ensures { (t : List ℕ) → Coded t rec.now codes.old codes.new (entry_token h rec.now k ∷ []) }
 {
     let pairs = from(rec, pairs_at(h));
     let kind = entry_kind(pairs, k);
     let n = entry_length(pairs, k);
     let at = text_place(rec, h, k);
     if kind == 3 {
-        return code_part(codes, tables, rec, 4, at, n as u16);
+        return code_part(codes, rec, 4, at, n as u16);
     }
-    code_literal(codes, tables, rec, kind == 2, at, n)
+    code_literal(codes, rec, kind == 2, at, n)
 }
 
 // The token for an address.
-pub fn name_or(codes: &mut [u64], tables: &[u8], rec: &[u8], h: Header, va: u64, w: u8)
-    requires lent { Lent codes.old tables.now h rec.now }
+pub fn name_or(codes: &mut [u64], tables: Tables<'_>, rec: &[u8], h: Header, va: u64, w: u8)
+    requires lent { Lent codes.old h rec.now }
     requires w_bound { w < 102 }
-    ensures { Coded tables.now rec.now codes.old codes.new (name_or h rec.now va (word_token w) ∷ []) }
+    ensures { Coded table_bytes rec.now codes.old codes.new (name_or h rec.now va (word_token w) ∷ []) }
 {
     match entry_at(rec, h, va) {
-        Some(k) => code_entry(codes, tables, rec, h, k),
+        Some(k) => code_entry(codes, rec, h, k),
         None => code_prefixed(codes, tables, w, va),
     }
 }

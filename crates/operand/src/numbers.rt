@@ -13,35 +13,12 @@ pub struct Sized {
     pub size: u64,
 }
 
-// A number of 32 bits in 64.
-fn widened(x: i32) -> i64
-    ensures { result ≡ x }
-{
-    x as i64
-}
-
-pub fn is_negative(x: i64) -> bool
-    ensures { result ≡ is_negative x }
-{
-    x < 0
-}
-
-// The size of a number: of the lowest i64 it is 2^63.
-pub fn magnitude(x: i64) -> u64
-    ensures { (result ≡ nat_abs x) × (result ≤ 0x8000_0000_0000_0000) }
-{
-    if is_negative(x) {
-        return (-1 - x) as u64 + 1;
-    }
-    x as u64
-}
-
 pub fn size_of(x: i64) -> Sized
     ensures { result ≡ sized_of x }
 {
     Sized {
-        negative: is_negative(x),
-        size: magnitude(x),
+        negative: x.is_negative(),
+        size: x.unsigned_abs(),
     }
 }
 
@@ -53,19 +30,16 @@ pub fn in_window(x: i64) -> bool
 }
 
 // An immediate's signed reading, and 0 for kinds that have none.
+#[tactic(auto, unfolding(crate::specs::Operand::signed_read))]
 pub fn signed_read(kind: u8, v: u64) -> i64
     ensures { result ≡ signed_read kind v }
 {
-    if (kind == 6) | (kind == 9) | (kind == 10) {
-        return signed_at(v, 0x8000_0000_0000_0000);
+    match kind {
+        6 | 9 | 10 => signed_at(v, 0x8000_0000_0000_0000),
+        5 | 8 => signed_at(v % 4294967296, 0x8000_0000),
+        7 => signed_at(v % 65536, 0x8000),
+        _ => 0,
     }
-    if (kind == 5) | (kind == 8) {
-        return signed_at(v % 4294967296, 0x8000_0000);
-    }
-    if kind == 7 {
-        return signed_at(v % 65536, 0x8000);
-    }
-    0
 }
 
 // The difference of two sizes.
@@ -88,11 +62,11 @@ fn difference(a: u64, b: u64) -> Sized
 pub fn shifted(x: i64, by: i32) -> Sized
     ensures { result ≡ sized_of (x +ℤ by) }
 {
-    let y = widened(by);
-    let a = magnitude(x);
-    let b = magnitude(y);
-    if is_negative(x) {
-        if is_negative(y) {
+    let y = i64::from(by);
+    let a = x.unsigned_abs();
+    let b = y.unsigned_abs();
+    if x.is_negative() {
+        if y.is_negative() {
             return Sized {
                 negative: true,
                 size: a + b,
@@ -100,7 +74,7 @@ pub fn shifted(x: i64, by: i32) -> Sized
         }
         return difference(b, a);
     }
-    if is_negative(y) {
+    if y.is_negative() {
         return difference(a, b);
     }
     Sized {

@@ -4,11 +4,13 @@ ghost use Rattle.operand.specs.Names.{in_span};
 ghost use Rattle.operand.specs.Operand.{immediate_number, immediate, op_tokens};
 ghost use Rattle.codes.specs.Coded.{Coded};
 ghost use Rattle.operand.specs.Lent.{Lent};
+ghost use Rattle.codes.specs.Tables.{table_bytes};
 
 use crate::memory::mem;
 use crate::names::{in_span, name_or};
-use crate::numbers::{in_window, magnitude, signed_read};
+use crate::numbers::{in_window, signed_read};
 use codes::code::{code_num, code_register, code_word};
+use codes::tables::Tables;
 use record::body::{op_kind, op_number, op_register};
 use record::header::Header;
 use tokens::words::{LOC, OFF, UNKNOWN};
@@ -30,15 +32,15 @@ fn code_immediate(codes: &mut [u64], kind: u8, v: u64)
 {
     let s = signed_read(kind, v);
     if in_window(s) {
-        return code_num(codes, true, magnitude(s));
+        return code_num(codes, true, s.unsigned_abs());
     }
     code_num(codes, false, v)
 }
 
 // An immediate: an address in a span by its name, before any sign is asked.
-fn immediate(codes: &mut [u64], tables: &[u8], rec: &[u8], h: Header, kind: u8, v: u64)
-    requires { Lent codes.old tables.now h rec.now }
-    ensures { Coded tables.now rec.now codes.old codes.new (immediate h rec.now kind v ∷ []) }
+fn immediate(codes: &mut [u64], tables: Tables<'_>, rec: &[u8], h: Header, kind: u8, v: u64)
+    requires { Lent codes.old h rec.now }
+    ensures { Coded table_bytes rec.now codes.old codes.new (immediate h rec.now kind v ∷ []) }
 {
     if is_address(rec, h, v) {
         return name_or(codes, tables, rec, h, v, OFF);
@@ -47,9 +49,9 @@ fn immediate(codes: &mut [u64], tables: &[u8], rec: &[u8], h: Header, kind: u8, 
 }
 
 // Operand i of a body, read from its slot.
-pub fn op(codes: &mut [u64], tables: &[u8], rec: &[u8], h: Header, body: &[u8], i: u8)
-    requires { Lent codes.old tables.now h rec.now }
-    ensures { Coded tables.now rec.now codes.old codes.new (op_tokens h rec.now body.now i) }
+pub fn op(codes: &mut [u64], tables: Tables<'_>, rec: &[u8], h: Header, body: &[u8], i: u8)
+    requires { Lent codes.old h rec.now }
+    ensures { Coded table_bytes rec.now codes.old codes.new (op_tokens h rec.now body.now i) }
 {
     let kind = op_kind(body, i);
     if kind == 0 {

@@ -3,18 +3,21 @@
 use mathlib.Core.Path.{◌≡◌, refl, sym, ap, ◌∙◌}
 use mathlib.Core.Bool.{true}
 use mathlib.Core.List.{List, [], ◌∷◌, ◌++◌, append_assoc}
-use Prim.Native.Nat.{ℕ, zero, suc, ◌+◌, ◌-◌, ◌*◌, ◌%◌, ◌^◌, ◌≤◌, ◌<◌}
+use Prim.Native.Nat.{ℕ, zero, suc, ◌+◌, ◌-◌, ◌*◌, ◌%◌, ◌^◌, ◌≤◌, ◌<◌, min}
 use native.Mathlib.Nat.{add-zero, zero-add}
-use native.Mathlib.Decide.{dec_lt}
+use native.Mathlib.Decide.{dec_lt, dec_le}
 use native.Mathlib.Omega.{arith}
 use borrow.Author.Tests.{lt-ltb, le-ltb}
-use lib.ListN.{length, get_or, take, drop, set, replicate, length-append, length-replicate, length-take}
-use lib.Seq.{slice, take-append_seam}
+use lib.ListN.{length, get_or, take, drop, set, replicate, length-append, length-replicate, length-take, length-drop, take-append-drop}
+use lib.Seq.{slice, take-append_seam, drop-drop}
+use borrow.Rule.Slice.PartMut.{mid_of, put_mid}
+use Rattle.std.proofs.lemmas.List.{replicate-append-replicate}
 use Rattle.lists.specs.Put.{put}
-use Rattle.lists.specs.PutLaws.{put_append, put_cons, put_none, put_fits}
+use Rattle.lists.specs.PutLaws.{put_append, put_cons, put_none, put_fits, put_length, put_past}
 use Rattle.text.specs.Number.{hex_text}
 use Rattle.text.specs.NumberLaws.{hex_64}
 use Rattle.text.specs.Decimal.{decimal_text}
+use Rattle.rows.specs.Lists.{Lists}
 use Rattle.page.specs.Page.{lf, numbered, address_text, line_of, count_line, tokens_end, lines_end, line_bytes, line_text, lines_text, page_text}
 
 -- what is stored from `at` on, and where it ends
@@ -47,22 +50,38 @@ numbered_puts word e e₁ e₂ e₃ n w end h p k q r =
     puts_then 0 end (end + 1) (word ++ decimal_text n) lf e e₂ e₃ (puts_then 0 w end word (decimal_text n) e e₁ e₂ first q k) (put_one end 10 e₂ e₃ r) refl
 
 -- ---- the same byte n times
-module _ (at n b : ℕ) where
-  pub run_start : (e : List ℕ) → put (at + 0) (replicate (n - 0) b) e ≡ put at (replicate n b) e
-  run_start e =
-      let d : n - 0 ≡ n = omega arith in
-      rw (add-zero, d)
+-- the part of a list that is filled: from m, which is `at` kept within the list, to k, which is at + n kept within it
+module _ (at n b m k : ℕ) (e : List ℕ) (p : m ≡ min at (length e)) (q : k ≡ min (at + n) (length e)) where
+  abbrev run : ℕ → List ℕ
+  run j = replicate j b
 
-  pub run_turn : (i : ℕ) (e e' r : List ℕ) → i < n → e' ≡ set e (at + i) b → put (at + i) (replicate (n - i) b) e ≡ r → put (at + (i + 1)) (replicate (n - (i + 1)) b) e' ≡ r
-  run_turn i e e' r h p q =
-      let d : n - i ≡ suc (n - (i + 1)) = omega arith in
-      let k : at + (i + 1) ≡ at + i + 1 = omega arith in
-      rw (k, p) (sym (put_cons (at + i) b (replicate (n - (i + 1)) b) e) ∙ rw d at q)
+  -- what is past the list is not stored
+  cut : put at (run n) e ≡ put at (run (k - m)) e
+  cut =
+      let s : k - m + (n - (k - m)) ≡ n = omega (arith, p, q) in
+      let parts : run n ≡ run (k - m) ++ run (n - (k - m)) = sym (replicate-append-replicate (k - m) (n - (k - m)) b ∙ ap run s) in
+      ap (λ (t : List ℕ). put at t e) parts ∙ put_append at (run (k - m)) (run (n - (k - m))) e
+      ∙ elim (dec_le (at + n) (length e)) [
+        | yes a ↦ let z : n - (k - m) ≡ 0 = omega (arith, p, q) in rw z (put_none _ _)
+        | no a ↦ put_past (at + length (run (k - m))) (run (n - (k - m))) (put at (run (k - m)) e) (omega (arith, p, q, put_length at (run (k - m)) e, length-replicate {A = ℕ} (k - m) b))
+      ]
 
-  pub run_done : (i : ℕ) (e r : List ℕ) → n ≤ i → put (at + i) (replicate (n - i) b) e ≡ r → e ≡ r
-  run_done i e r h q =
-      let d : n - i ≡ 0 = omega arith in
-      sym (put_none (at + i) e) ∙ rw d at q
+  stored : put_mid m (k - m) e (run (k - m)) ≡ put at (run (k - m)) e
+  stored =
+      elim (dec_le at (length e)) [
+        | yes a ↦
+            let same : m ≡ at = omega (arith, p) in
+            rw same (sym (put_fits at (run (k - at)) e (omega (arith, p, q, length-replicate {A = ℕ} (k - at) b))
+            ∙ rw (length-replicate {A = ℕ} (k - at) b, ← drop-drop (k - at) at e, append_assoc (take at e) (run (k - at)) (drop (k - at) (drop at e)))))
+        | no a ↦
+            let none : k - m ≡ 0 = omega (arith, p, q) in
+            rw (none, put_none, take-append-drop)
+      ]
+
+  pub filled : (r : List ℕ) → r ≡ run (length (mid_of m (k - m) e)) → put_mid m (k - m) e r ≡ put at (run n) e
+  filled r f =
+      let all : length (mid_of m (k - m) e) ≡ k - m = omega (arith, p, q, length-take (k - m) (drop m e), length-drop m e) in
+      rw (f, all) (stored ∙ sym cut)
 
 -- ---- a line
 module _ (mark address : ℕ) where
@@ -140,9 +159,9 @@ left_turn at₀ all e s t out out' at at' l p h =
       end = omega (arith, l.end, length-append s t);
     }
 
-module _ (text ends lines addresses marks : List ℕ) where
+module _ (l : Lists) where
   abbrev lines_from : ℕ → ℕ → List ℕ
-  lines_from = lines_text text ends lines addresses marks
+  lines_from = lines_text l
 
   -- lines, and those behind them
   pub lines_append : (i a b : ℕ) → lines_from i (a + b) ≡ lines_from i a ++ lines_from (i + a) b
@@ -151,8 +170,8 @@ module _ (text ends lines addresses marks : List ℕ) where
   lines_append i (suc a) b =
       let d : suc a + b ≡ suc (a + b) = omega arith in
       let k : suc i + a ≡ i + suc a = omega arith in
-      let l = line_text text ends lines addresses marks i in
-      rw d (ap (λ (t : List ℕ). l ++ t) (lines_append (suc i) a b ∙ rw k) ∙ sym (append_assoc l (lines_from (suc i) a) (lines_from (i + suc a) b)))
+      let first = line_text l i in
+      rw d (ap (λ (t : List ℕ). first ++ t) (lines_append (suc i) a b ∙ rw k) ∙ sym (append_assoc first (lines_from (suc i) a) (lines_from (i + suc a) b)))
 
   -- of the lines from i up to last those from j on, when the list is as `out` and the text so far ends at `at`
   abbrev pub Ahead : ℕ → ℕ → ℕ → List ℕ → ℕ → ℕ → List ℕ → Type 0
@@ -162,27 +181,28 @@ module _ (text ends lines addresses marks : List ℕ) where
     pub lines_start : (at : ℕ) (e : List ℕ) → Ahead i last at e i at e
     lines_start at e = record { text = refl; end = refl }
 
-    pub lines_turn : (at₀ : ℕ) (e : List ℕ) (j start k end mark address at at' : ℕ) (s out out' : List ℕ) → j < last → start ≡ lines_end ends lines j → k ≡ get_or lines j 0 → end ≡ tokens_end ends k
-        → s ≡ slice start end text → mark ≡ get_or marks j 0 → address ≡ get_or addresses j 0 → at' ≡ at + length (line_of mark address s) → out' ≡ put at (line_of mark address s) out
+    -- x is the same listing, as its lists were lent
+    pub lines_turn : (x : Lists) → x ≡ l → (at₀ : ℕ) (e : List ℕ) (j start k end mark address at at' : ℕ) (s out out' : List ℕ) → j < last → start ≡ lines_end l.ends l.lines j → k ≡ get_or x.lines j 0 → end ≡ tokens_end x.ends k
+        → s ≡ slice start end x.text → mark ≡ get_or x.marks j 0 → address ≡ get_or x.addresses j 0 → at' ≡ at + length (line_of mark address s) → out' ≡ put at (line_of mark address s) out
         → Ahead i last at₀ e j at out → Ahead i last at₀ e (j + 1) at' out'
     unfolding lines_text
-    lines_turn at₀ e j start k end mark address at at' s out out' h a b c d f g m p l =
+    lines_turn x is at₀ e j start k end mark address at at' s out out' h a b c d f g m p q =
         let v : last - j ≡ suc (last - suc j) = omega arith in
         let w : suc j ≡ j + 1 = omega arith in
-        let q : s ≡ line_bytes text ends lines addresses marks j = d ∙ rw (c, b, a) in
-        let here : Left at₀ (lines_from i (last - i)) e at (line_of mark address s ++ lines_from (j + 1) (last - (j + 1))) out = rw (f, g, q, ← w) (rw v at l) in
+        let bytes : s ≡ line_bytes l j = d ∙ rw (is, c, b, a, is) in
+        let here : Left at₀ (lines_from i (last - i)) e at (line_of mark address s ++ lines_from (j + 1) (last - (j + 1))) out = rw (f, g, is, bytes, ← w) (rw v at q) in
         left_turn at₀ (lines_from i (last - i)) e (line_of mark address s) (lines_from (j + 1) (last - (j + 1))) out out' at at' here p m
 
     pub lines_done : (at₀ : ℕ) (e : List ℕ) (k j at : ℕ) (out : List ℕ) → last ≡ i + k → last ≤ j → Ahead i last at₀ e j at out → Puts at₀ (lines_from i k) at e out
     unfolding lines_text
-    lines_done at₀ e k j at out q h l =
+    lines_done at₀ e k j at out q h r =
         let d : last - j ≡ 0 = omega arith in
         let n : last - i ≡ k = omega arith in
-        let r : Left at₀ (lines_from i k) e at [] out = rw (d, n) at l in
-        record { text = sym (put_none at out) ∙ r.text; end = omega (arith, r.end) }
+        let all : Left at₀ (lines_from i k) e at [] out = rw (d, n) at r in
+        record { text = sym (put_none at out) ∙ all.text; end = omega (arith, all.end) }
 
   -- ---- the page
   pub page_puts : (n at r : ℕ) (e e₁ e₂ : List ℕ) → at ≡ length (count_line n) → e₁ ≡ put 0 (count_line n) e → r ≡ at + length (lines_from 0 n) → e₂ ≡ put at (lines_from 0 n) e₁
-      → Puts 0 (page_text text ends lines addresses marks n) r e e₂
+      → Puts 0 (page_text l n) r e e₂
   unfolding page_text
   page_puts n at r e e₁ e₂ k p h q = puts_then 0 at r (count_line n) (lines_from 0 n) e e₁ e₂ (record { text = p; end = omega arith }) q h

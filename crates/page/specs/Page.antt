@@ -5,8 +5,10 @@ use Rattle.std.specs.Prelude.{true, List, [], ◌∷◌, ◌++◌, ℕ, zero, su
 use Rattle.std.proofs.Math.Seq.{slice}
 use Rattle.lists.specs.Ascii.{ascii}
 use Rattle.lists.specs.Choice.{pick}
-use Rattle.lists.specs.declared.stored.Stored.{Stored}
-use Rattle.lists.specs.declared.stored.Stored.TheVariants.{Bytes, No}
+use Rattle.std.specs.declared.result.Result.{Result}
+use Rattle.std.specs.Prelude.{Ok, Err}
+use Rattle.lists.specs.Question.{number}
+use Rattle.lists.specs.declared.question.Question.{Question}
 use Rattle.text.specs.Number.{hex_text}
 use Rattle.text.specs.Decimal.{decimal_text}
 use Rattle.rows.specs.Lists.{Lists}
@@ -32,9 +34,9 @@ output_for zero text = text
 output_for (suc n) text = refusal (suc n)
 
 -- the same of a call that stores bytes from the start of the list e on
-abbrev pub stored_output : Stored → List ℕ → List ℕ
-stored_output (Bytes n) e = take n e
-stored_output (No k) e = refusal k
+abbrev pub stored_output : Result ℕ Question → List ℕ → List ℕ
+stored_output (Ok n) e = take n e
+stored_output (Err q) e = refusal (number q)
 
 -- "address (sixteen upper hex digits, or dashes if none)": a line has one if its mark is 256 or more; 48 is '0', 45 is '-'
 unfoldable pub address_text : ℕ → ℕ → List ℕ
@@ -54,13 +56,13 @@ abbrev pub lines_end : List ℕ → List ℕ → ℕ → ℕ
 lines_end ends lines zero = 0
 lines_end ends lines (suc i) = tokens_end ends (get_or lines i 0)
 
-module _ (text ends lines addresses marks : List ℕ) where
+module _ (l : Lists) where
   -- the bytes of line i: from where the line before ends to where its own last token ends
   abbrev pub line_bytes : ℕ → List ℕ
-  line_bytes i = slice (lines_end ends lines i) (lines_end ends lines (suc i)) text
+  line_bytes i = slice (lines_end l.ends l.lines i) (lines_end l.ends l.lines (suc i)) l.text
 
   abbrev pub line_text : ℕ → List ℕ
-  line_text i = line_of (get_or marks i 0) (get_or addresses i 0) (line_bytes i)
+  line_text i = line_of (get_or l.marks i 0) (get_or l.addresses i 0) (line_bytes i)
 
   -- the lines from i on, k of them
   unfoldable pub lines_text : ℕ → ℕ → List ℕ
@@ -70,6 +72,6 @@ module _ (text ends lines addresses marks : List ℕ) where
   unfoldable pub page_text : ℕ → List ℕ
   page_text n = count_line n ++ lines_text 0 n
 
--- the page of a listing
-abbrev pub page_of : Lists → List ℕ
-page_of l = page_text l.text l.ends l.lines l.addresses l.marks (length l.addresses)
+  -- the page of a listing
+  abbrev pub page_of : List ℕ
+  page_of = page_text (length l.addresses)

@@ -1,7 +1,6 @@
 // The text that the program prints. Each writer is told where in the list its text begins.
 #![tactic(auto)]
 
-pub mod entries;
 mod line;
 pub mod number;
 pub mod page;

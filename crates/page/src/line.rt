@@ -11,9 +11,9 @@ fn put_run(out: &mut [u8], at: usize, n: usize, b: u8)
     requires { at + n ≤ 2 ^ 32 }
     ensures { out.new ≡ put at (replicate n b) out.old }
 {
-    for i in 0..n {
-        store(out, at + i, b);
-    }
+    let start = at.min(out.len());
+    let end = (at + n).min(out.len());
+    out[start..end].fill(b);
 }
 
 fn put_text(out: &mut [u8], at: usize, s: &[u8])

@@ -1,9 +1,10 @@
 // A line of a word and a number.
 ghost use Rattle.std.specs.Prelude.{◌≡◌, ◌≤◌, length, take};
 ghost use Rattle.lists.specs.Put.{put};
+ghost use Rattle.lists.specs.Question.{number};
 ghost use Rattle.page.specs.Page.{numbered, refusal, stored_output};
 
-use lists::stored::Stored;
+use lists::question::Question;
 use lists::stores::{put_slice, store};
 use text::decimal::put_decimal;
 
@@ -19,20 +20,20 @@ pub fn put_numbered(out: &mut [u8], word: &[u8], n: u16) -> usize
     end + 1
 }
 
-pub fn put_refusal(out: &mut [u8], n: u8) -> usize
-    ensures end { (result ≡ length (refusal n)) × (result ≤ 10) }
-    ensures text { out.new ≡ put 0 (refusal n) out.old }
+pub fn put_refusal(out: &mut [u8], q: Question) -> usize
+    ensures end { (result ≡ length (refusal (number q))) × (result ≤ 10) }
+    ensures text { out.new ≡ put 0 (refusal (number q)) out.old }
 {
-    put_numbered(out, b"no ", n as u16)
+    put_numbered(out, b"no ", u8::from(q).into())
 }
 
 // What is printed of a call that stores bytes from the start of the list on: these, or `no` and the number; answers how many bytes that is.
-pub fn put_stored(out: &mut [u8], answer: Stored) -> usize
+pub fn put_stored(out: &mut [u8], answer: Result<usize, Question>) -> usize
     requires { 10 ≤ length out.old }
     ensures { take result out.new ≡ stored_output answer out.old }
 {
     match answer {
-        Stored::Bytes(n) => n,
-        Stored::No(n) => put_refusal(out, n),
+        Ok(n) => n,
+        Err(q) => put_refusal(out, q),
     }
 }

@@ -4,17 +4,11 @@ ghost use Rattle.std.proofs.Math.Seq.{slice};
 ghost use Rattle.lists.specs.Put.{put};
 ghost use Rattle.page.specs.Page.{count_line, tokens_end, lines_end, lines_text, page_text};
 
-use crate::entries::u32_in;
 use crate::line::put_line;
 use crate::number::put_numbered;
 use lists::parts::{from, part};
 use lists::reads::element_or;
-
-fn wide(x: u32) -> usize
-    ensures { result ≡ x }
-{
-    x as usize
-}
+use rows::listing::Listing;
 
 // Where the first k tokens end.
 fn tokens_end(ends: &[u32], k: u32) -> usize
@@ -23,7 +17,7 @@ fn tokens_end(ends: &[u32], k: u32) -> usize
     if k == 0 {
         return 0;
     }
-    wide(element_or(ends, wide(k) - 1, 0))
+    element_or(ends, k as usize - 1, 0) as usize
 }
 
 // Where the first i lines end.
@@ -52,53 +46,31 @@ pub fn put_count(out: &mut [u8], n: u16) -> usize
 }
 
 // The lines from i on, k of them; answers where they end.
-pub fn put_lines(
-    out: &mut [u8],
-    at: usize,
-    i: usize,
-    k: usize,
-    text: &[u8],
-    ends: &[u32],
-    lines: &[u32],
-    addresses: &[u64],
-    marks: &[u16],
-) -> usize
-    requires { (at ≤ 12) × (i ≤ 65535) × (k ≤ 2000) × (length text.now ≤ 262144) }
-    ensures end { result ≡ at + length (lines_text text.now ends.now lines.now addresses.now marks.now i k) }
-    ensures text { out.new ≡ put at (lines_text text.now ends.now lines.now addresses.now marks.now i k) out.old }
+pub fn put_lines(out: &mut [u8], at: usize, i: usize, k: usize, l: &Listing<'_>) -> usize
+    requires { (at ≤ 12) × (i ≤ 65535) × (k ≤ 2000) × (length l.now.text ≤ 262144) }
+    ensures end { result ≡ at + length (lines_text l.now i k) }
+    ensures text { out.new ≡ put at (lines_text l.now i k) out.old }
 {
     let last = i + k;
-    let mut start = lines_end(ends, lines, i);
+    let mut start = lines_end(l.ends, l.lines, i);
     let mut p = at;
     for j in i..last {
-        let end = tokens_end(ends, element_or(lines, j, 0));
-        let bytes = between(text, start, end);
-        p = put_line(
-            out,
-            p,
-            element_or(marks, j, 0),
-            element_or(addresses, j, 0),
-            bytes,
-        );
+        let end = tokens_end(l.ends, element_or(l.lines, j, 0));
+        let bytes = between(l.text, start, end);
+        let mark = element_or(l.marks, j, 0);
+        let address = element_or(l.addresses, j, 0);
+        p = put_line(out, p, mark, address, bytes);
         start = end;
     }
     p
 }
 
-// Answers where the page ends.
-pub fn put_page(
-    out: &mut [u8],
-    n: usize,
-    text: &[u8],
-    ends: &[u32],
-    lines: &[u32],
-    addresses: &[u64],
-    marks: &[u16],
-) -> usize
-    requires { (n ≤ 900) × (length text.now ≤ 65536) }
-    ensures end { result ≡ length (page_text text.now ends.now lines.now addresses.now marks.now n) }
-    ensures text { out.new ≡ put 0 (page_text text.now ends.now lines.now addresses.now marks.now n) out.old }
+// The first n lines; answers where the page ends.
+pub fn put_page(out: &mut [u8], n: usize, l: &Listing<'_>) -> usize
+    requires { (n ≤ 900) × (length l.now.text ≤ 65536) }
+    ensures end { result ≡ length (page_text l.now n) }
+    ensures text { out.new ≡ put 0 (page_text l.now n) out.old }
 {
     let at = put_count(out, n as u16);
-    put_lines(out, at, 0, n, text, ends, lines, addresses, marks)
+    put_lines(out, at, 0, n, l)
 }

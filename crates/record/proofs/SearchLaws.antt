@@ -11,11 +11,19 @@ use lib.Dec.{eqb}
 use borrow.Author.Tests.{eq-eqb, ne_eqb}
 use Rattle.lists.specs.Choice.{pick, all_below}
 use Rattle.record.specs.Search.{number_at, find_from, last_from}
+use Rattle.std.specs.Option.{is_some}
 use Rattle.std.specs.Prelude.{Option, Some, None}
 
 abbrev pub none : Option ℕ → Bool
 none None = true
 none (Some k) = false
+
+-- as `is_none` tells it
+pub none_is : (found : Option ℕ) (b : Bool) → is_some found ≡ not b → none found ≡ b
+none_is None true e = refl
+none_is None false e = absurd (cc)
+none_is (Some k) true e = absurd (cc)
+none_is (Some k) false e = refl
 
 none_pick : (b : Bool) (k : ℕ) (f : Option ℕ) → none (pick b (Some k) f) ≡ (not b && none f)
 none_pick true k f = refl

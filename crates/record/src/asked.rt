@@ -39,6 +39,7 @@ pub fn sized_header(bytes: &[u8]) -> Result<Header, Question>
 }
 
 // Question 5.
+#[tactic(auto, unfolding(crate::specs::Asked::marks_asked))]
 fn marks_asked(bytes: &[u8], h: Header) -> bool
     ensures { result ≡ marks_asked h bytes.now }
 {
@@ -46,6 +47,7 @@ fn marks_asked(bytes: &[u8], h: Header) -> bool
 }
 
 // Question 6.
+#[tactic(auto, unfolding(crate::specs::Asked::starts_asked))]
 fn starts_asked(bytes: &[u8], h: Header) -> bool
     ensures { result ≡ starts_asked h bytes.now }
 {
@@ -53,6 +55,7 @@ fn starts_asked(bytes: &[u8], h: Header) -> bool
 }
 
 // Question 7.
+#[tactic(auto, unfolding(crate::specs::Asked::edge_kinds_asked))]
 fn edge_kinds_asked(bytes: &[u8], h: Header) -> bool
     ensures { result ≡ edge_kinds_asked h bytes.now }
 {
@@ -60,6 +63,7 @@ fn edge_kinds_asked(bytes: &[u8], h: Header) -> bool
 }
 
 // Question 8.
+#[tactic(auto, unfolding(crate::specs::Asked::bodies_asked))]
 fn bodies_asked(bytes: &[u8], h: Header) -> bool
     ensures { result ≡ bodies_asked h bytes.now }
 {
@@ -67,6 +71,7 @@ fn bodies_asked(bytes: &[u8], h: Header) -> bool
 }
 
 // Question 15.
+#[tactic(auto, unfolding(crate::specs::Asked::branches_asked))]
 fn branches_asked(bytes: &[u8], h: Header) -> bool
     ensures { result ≡ branches_asked h bytes.now }
 {
@@ -77,6 +82,7 @@ fn branches_asked(bytes: &[u8], h: Header) -> bool
 }
 
 // Question 9.
+#[tactic(auto, unfolding(crate::specs::Asked::atlas_asked))]
 fn atlas_asked(bytes: &[u8], h: Header) -> bool
     ensures { result ≡ atlas_asked h bytes.now }
 {
@@ -86,6 +92,7 @@ fn atlas_asked(bytes: &[u8], h: Header) -> bool
 }
 
 // Question 10.
+#[tactic(auto, unfolding(crate::specs::Asked::spans_asked))]
 fn spans_asked(bytes: &[u8], h: Header) -> bool
     ensures { result ≡ spans_asked h bytes.now }
 {

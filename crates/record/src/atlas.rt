@@ -32,6 +32,7 @@ fn entry_kind_ok(kind: u8) -> bool
 }
 
 // Addresses rise and kinds are 1 to 3; `before` is the address of the entry before, at first the first one's.
+#[tactic(auto, unfolding(crate::specs::Atlas::entries_ok))]
 fn entries_ok(entries: &[u8], pairs: &[u8], atlas: u16) -> bool
     ensures { result ≡ entries_ok entries.now pairs.now atlas }
 {
@@ -45,7 +46,8 @@ fn entries_ok(entries: &[u8], pairs: &[u8], atlas: u16) -> bool
     ok
 }
 
-// The lengths of k entries that are there, summed: no test stands between the reads.
+// The lengths of k entries that are there, summed. Kept for speed: no test stands between the reads.
+#[tactic(auto, unfolding(crate::specs::Atlas::text_start))]
 fn plain_start(pairs: &[u8], k: usize) -> u32
     requires { (k < 65536) × (2 * k ≤ length pairs.now) }
     ensures { result ≡ text_start pairs.now k }
@@ -58,6 +60,7 @@ fn plain_start(pairs: &[u8], k: usize) -> u32
 }
 
 // Where entry k's text begins among the texts: for the number of entries, the texts' length.
+#[tactic(auto, unfolding(crate::specs::Atlas::text_start))]
 pub fn text_start(pairs: &[u8], k: u16) -> usize
     ensures { result ≡ text_start pairs.now k }
 {
@@ -80,7 +83,7 @@ fn text_byte_ok(kind: u8, c: u8) -> bool
     c < 0x80
 }
 
-// The n bytes of a name that are there: no test of the length stands between the reads.
+// The n bytes of a name that are there. Kept for speed, as the next two: no test of the length stands between the reads.
 fn plain_name_ok(text: &[u8], n: usize) -> bool
     requires { n ≤ length text.now }
     ensures { result ≡ all_below (λ j. leb 0x20 (u8_at text.now j) && leb (u8_at text.now j) 0x7e) n }
@@ -106,6 +109,7 @@ fn plain_string_ok(text: &[u8], n: usize) -> bool
 }
 
 // A text of n bytes that are there.
+#[tactic(auto, unfolding(crate::specs::Atlas::text_ok))]
 fn plain_text_ok(kind: u8, n: u8, text: &[u8]) -> bool
     requires { n ≤ length text.now }
     ensures { result ≡ text_ok kind n text.now }
@@ -117,6 +121,7 @@ fn plain_text_ok(kind: u8, n: u8, text: &[u8]) -> bool
 }
 
 // A text of n bytes at the beginning of a part.
+#[tactic(auto, unfolding(crate::specs::Atlas::text_ok))]
 fn text_ok(kind: u8, n: u8, text: &[u8]) -> bool
     ensures { result ≡ text_ok kind n text.now }
 {
@@ -130,6 +135,7 @@ fn text_ok(kind: u8, n: u8, text: &[u8]) -> bool
     ((kind != 3) | (1 <= n)) & ok
 }
 
+#[tactic(auto, unfolding(crate::specs::Atlas::text_start, crate::specs::Atlas::texts_ok))]
 fn texts_ok(pairs: &[u8], texts: &[u8], atlas: u16) -> bool
     ensures { result ≡ texts_ok pairs.now texts.now atlas }
 {
@@ -144,6 +150,7 @@ fn texts_ok(pairs: &[u8], texts: &[u8], atlas: u16) -> bool
 }
 
 // Question 9. The texts are read only once their lengths are known to total what the header says.
+#[tactic(auto, unfolding(crate::specs::Atlas::atlas_ok))]
 pub fn atlas_ok(entries: &[u8], pairs: &[u8], texts: &[u8], atlas: u16, text: u16) -> bool
     ensures { result ≡ atlas_ok entries.now pairs.now texts.now atlas text }
 {
@@ -168,6 +175,7 @@ pub fn span_last(spans: &[u8], k: u16) -> u64
 }
 
 // Question 10.
+#[tactic(auto, unfolding(crate::specs::Atlas::spans_ok))]
 pub fn spans_ok(spans: &[u8], count: u16) -> bool
     ensures { result ≡ spans_ok spans.now count }
 {

@@ -49,6 +49,7 @@ pub fn edge_kind_at(kinds: &[u8], e: u16) -> u8
 }
 
 // Question 5.
+#[tactic(auto, unfolding(crate::specs::Blocks::marks_ok))]
 pub fn marks_ok(marks: &[u8], blocks: u16, instructions: u16, edges: u16) -> bool
     ensures { result ≡ marks_ok marks.now blocks instructions edges }
 {
@@ -64,18 +65,16 @@ pub fn marks_ok(marks: &[u8], blocks: u16, instructions: u16, edges: u16) -> boo
 }
 
 // Whether block k's start differs from that of every block before it.
+#[tactic(auto, unfolding(crate::specs::Blocks::start_is_new, crate::specs::Blocks::differ))]
 fn start_is_new(starts: &[u8], k: u16) -> bool
     ensures { result ≡ start_is_new starts.now k }
 {
     let x = start_at(starts, Place(k));
-    let found = first_of(starts, k, x.0);
-    match found {
-        Some(_) => false,
-        None => true,
-    }
+    first_of(starts, k, x.0).is_none()
 }
 
 // Whether each block starts above the one before it; `before` is that one's start, at first block 0's.
+#[tactic(auto, unfolding(crate::specs::Blocks::starts_rise))]
 pub fn starts_rise(starts: &[u8], blocks: u16) -> bool
     ensures { result ≡ starts_rise starts.now blocks }
 {
@@ -90,6 +89,7 @@ pub fn starts_rise(starts: &[u8], blocks: u16) -> bool
 }
 
 // Question 6. Starts that rise differ, which one pass tells; other records ask it of each pair.
+#[tactic(auto, unfolding(crate::specs::Blocks::starts_differ))]
 pub fn starts_differ(starts: &[u8], blocks: u16) -> bool
     ensures { result ≡ starts_differ starts.now blocks }
 {
@@ -105,6 +105,7 @@ pub fn starts_differ(starts: &[u8], blocks: u16) -> bool
 }
 
 // Question 7.
+#[tactic(auto, unfolding(crate::specs::Blocks::edge_kinds_ok))]
 pub fn edge_kinds_ok(kinds: &[u8], edges: u16) -> bool
     ensures { result ≡ edge_kinds_ok kinds.now edges }
 {

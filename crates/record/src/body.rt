@@ -1,11 +1,11 @@
 // An instruction's body: readers over the part of the record that begins at it, and question 8.
 ghost use Rattle.std.specs.Prelude.{◌≡◌, ◌-◌, ◌*◌, ◌<◌, ◌≤◌, length};
-ghost use Rattle.x86.specs.Table.{missing_table};
+ghost use Rattle.lists.specs.Bytes.{u8_at};
 ghost use Rattle.record.specs.Body.{address_at, body_at, mnemonic_of, condition_of, operand_count, skip_mark, segment_of, base_of, index_of, scale_of, memory_size, memory_address, operand_kind, register_byte, operand_register, operand_number, is_conditional_branch, name_byte, condition_ok, scale_ok, operand_ok, fixed_ok, is_name, is_zeros, operands_ok, body_ok, bodies_ok};
 
 use lists::parts::from;
 use lists::reads::{plain_u8, plain_u64, u8_at, u16_at, u64_at};
-use x86::registers::{missing_table, register_known};
+use x86::registers::{Missing, missing_table, register_known};
 
 pub fn address_at(addresses: &[u8], i: u16) -> u64
     ensures { result ≡ address_at addresses.now i }
@@ -125,8 +125,8 @@ fn scale_ok(k: u8) -> bool
     (k == 1) | (k == 2) | (k == 4) | (k == 8)
 }
 
-fn fixed_ok(missing: &[u8], body: &[u8]) -> bool
-    requires { missing.now ≡ missing_table }
+#[tactic(auto, unfolding(crate::specs::Body::fixed_ok))]
+fn fixed_ok(missing: Missing<'_>, body: &[u8]) -> bool
     ensures { result ≡ fixed_ok body.now }
 {
     condition_ok(mnemonic(body), condition_code(body))
@@ -138,8 +138,8 @@ fn fixed_ok(missing: &[u8], body: &[u8]) -> bool
         & scale_ok(memory_index_scale(body))
 }
 
-fn operand_ok(missing: &[u8], body: &[u8], i: u8) -> bool
-    requires { missing.now ≡ missing_table }
+#[tactic(auto, unfolding(crate::specs::Body::operand_ok))]
+fn operand_ok(missing: Missing<'_>, body: &[u8], i: u8) -> bool
     ensures { result ≡ operand_ok body.now i }
 {
     (op_kind(body, i) <= 11) & register_known(missing, register_byte(body, i))
@@ -167,14 +167,15 @@ fn is_name(name: &[u8]) -> bool
 }
 
 // Eight bytes are zeros where their number is.
+#[tactic(auto, using(crate::proofs::Zeros::words_zero))]
 fn is_zeros(name: &[u8]) -> bool
     ensures { result ≡ is_zeros name.now }
 {
     (u64_at(name, 0) == 0) & (u64_at(name, 8) == 0) & (u64_at(name, 16) == 0)
 }
 
-fn operands_ok(missing: &[u8], body: &[u8]) -> bool
-    requires { missing.now ≡ missing_table }
+#[tactic(auto, unfolding(crate::specs::Body::operands_ok))]
+fn operands_ok(missing: Missing<'_>, body: &[u8]) -> bool
     ensures { result ≡ operands_ok body.now }
 {
     let mut ok = true;
@@ -184,8 +185,8 @@ fn operands_ok(missing: &[u8], body: &[u8]) -> bool
     ok
 }
 
-fn body_ok(missing: &[u8], body: &[u8]) -> bool
-    requires { missing.now ≡ missing_table }
+#[tactic(auto, unfolding(crate::specs::Body::body_ok))]
+fn body_ok(missing: Missing<'_>, body: &[u8]) -> bool
     ensures { result ≡ body_ok body.now }
 {
     let fixed = fixed_ok(missing, body) & operands_ok(missing, body);
@@ -196,33 +197,46 @@ fn body_ok(missing: &[u8], body: &[u8]) -> bool
     fixed & is_zeros(name)
 }
 
-// The same of a body that is there: no test of the length stands between the reads.
-fn plain_fixed_ok(missing: &[u8], body: &[u8]) -> bool
-    requires table { missing.now ≡ missing_table }
-    requires there { 92 ≤ length body.now }
-    ensures { result ≡ fixed_ok body.now }
-{
-    condition_ok(plain_u8(body, 0), plain_u8(body, 1))
-        & (plain_u8(body, 2) <= 5)
-        & (plain_u8(body, 3) <= 1)
-        & register_known(missing, plain_u8(body, 4))
-        & register_known(missing, plain_u8(body, 5))
-        & register_known(missing, plain_u8(body, 6))
-        & scale_ok(plain_u8(body, 7))
+// A body that is there. What follows is the same of it, kept for speed: no test of the length stands between the reads.
+#[derive(Clone, Copy)]
+struct Whole<'a> {
+    bytes: &'a [u8],
+    ghost there: { 92 ≤ length bytes.now },
 }
 
-fn plain_operand_ok(missing: &[u8], body: &[u8], i: usize) -> bool
-    requires table { missing.now ≡ missing_table }
-    requires there { (i < 5) × (92 ≤ length body.now) }
-    ensures { result ≡ operand_ok body.now i }
-{
-    (plain_u8(body, 18 + 10 * i) <= 11) & register_known(missing, plain_u8(body, 18 + 10 * i + 1))
+impl<'a> Whole<'a> {
+    fn byte(self, at: usize) -> u8
+        requires { at < 92 }
+        ensures { result ≡ u8_at self.entry.bytes.now at }
+    {
+        plain_u8(self.bytes, at)
+    }
 }
 
-fn plain_operands_ok(missing: &[u8], body: &[u8]) -> bool
-    requires table { missing.now ≡ missing_table }
-    requires there { 92 ≤ length body.now }
-    ensures { result ≡ operands_ok body.now }
+#[tactic(auto, unfolding(crate::specs::Body::fixed_ok))]
+fn plain_fixed_ok(missing: Missing<'_>, body: Whole<'_>) -> bool
+    ensures { result ≡ fixed_ok body.entry.bytes.now }
+{
+    condition_ok(body.byte(0), body.byte(1))
+        & (body.byte(2) <= 5)
+        & (body.byte(3) <= 1)
+        & register_known(missing, body.byte(4))
+        & register_known(missing, body.byte(5))
+        & register_known(missing, body.byte(6))
+        & scale_ok(body.byte(7))
+}
+
+#[tactic(auto, unfolding(crate::specs::Body::operand_ok))]
+fn plain_operand_ok(missing: Missing<'_>, body: Whole<'_>, i: usize) -> bool
+    requires { i < 5 }
+    ensures { result ≡ operand_ok body.entry.bytes.now i }
+{
+    (body.byte(18 + 10 * i) <= 11) & register_known(missing, body.byte(18 + 10 * i + 1))
+}
+
+#[tactic(auto, unfolding(crate::specs::Body::operands_ok))]
+fn plain_operands_ok(missing: Missing<'_>, body: Whole<'_>) -> bool
+    ensures { result ≡ operands_ok body.entry.bytes.now }
 {
     plain_operand_ok(missing, body, 0)
         & plain_operand_ok(missing, body, 1)
@@ -231,6 +245,7 @@ fn plain_operands_ok(missing: &[u8], body: &[u8]) -> bool
         & plain_operand_ok(missing, body, 4)
 }
 
+// Kept for speed: the same of a name that is there.
 fn plain_name(name: &[u8]) -> bool
     requires { 24 ≤ length name.now }
     ensures { result ≡ is_name name.now }
@@ -246,6 +261,7 @@ fn plain_name(name: &[u8]) -> bool
     name_byte(first) & ok
 }
 
+#[tactic(auto, using(crate::proofs::Zeros::words_zero))]
 fn plain_zeros(name: &[u8]) -> bool
     requires { 24 ≤ length name.now }
     ensures { result ≡ is_zeros name.now }
@@ -253,14 +269,13 @@ fn plain_zeros(name: &[u8]) -> bool
     (plain_u64(name, 0) == 0) & (plain_u64(name, 8) == 0) & (plain_u64(name, 16) == 0)
 }
 
-fn plain_body_ok(missing: &[u8], body: &[u8]) -> bool
-    requires table { missing.now ≡ missing_table }
-    requires there { 92 ≤ length body.now }
-    ensures { result ≡ body_ok body.now }
+#[tactic(auto, unfolding(crate::specs::Body::body_ok))]
+fn plain_body_ok(missing: Missing<'_>, body: Whole<'_>) -> bool
+    ensures { result ≡ body_ok body.entry.bytes.now }
 {
     if plain_fixed_ok(missing, body) & plain_operands_ok(missing, body) {
-        let name = from(body, 68);
-        if plain_u8(body, 0) == 0 {
+        let name = from(body.bytes, 68);
+        if body.byte(0) == 0 {
             return plain_name(name);
         }
         return plain_zeros(name);
@@ -268,14 +283,18 @@ fn plain_body_ok(missing: &[u8], body: &[u8]) -> bool
     false
 }
 
+#[tactic(auto, unfolding(crate::specs::Body::bodies_ok))]
 fn plain_bodies_ok(bodies: &[u8], instructions: u16) -> bool
     requires { 92 * instructions ≤ length bodies.now }
     ensures { result ≡ bodies_ok bodies.now instructions }
 {
     let table = missing_table();
-    let missing: &[u8] = &table;
+    let missing = Missing { bytes: &table };
     for i in 0..instructions {
-        if !plain_body_ok(missing, body_at(bodies, i)) {
+        let body = Whole {
+            bytes: body_at(bodies, i),
+        };
+        if !plain_body_ok(missing, body) {
             return false;
         }
     }
@@ -283,6 +302,7 @@ fn plain_bodies_ok(bodies: &[u8], instructions: u16) -> bool
 }
 
 // Question 8, of the instructions.
+#[tactic(auto, unfolding(crate::specs::Body::bodies_ok))]
 pub fn bodies_ok(bodies: &[u8], instructions: u16) -> bool
     ensures { result ≡ bodies_ok bodies.now instructions }
 {
@@ -290,7 +310,7 @@ pub fn bodies_ok(bodies: &[u8], instructions: u16) -> bool
         return plain_bodies_ok(bodies, instructions);
     }
     let table = missing_table();
-    let missing: &[u8] = &table;
+    let missing = Missing { bytes: &table };
     let mut ok = true;
     for i in 0..instructions {
         ok = ok & body_ok(missing, body_at(bodies, i));

@@ -13,13 +13,11 @@ use lists::reads::{u8_at, u64_at};
 fn true_at(kinds: &[u8], e: usize) -> u16
     ensures { (result ≡ pick (is_true kinds.now e) 1 0) × (result ≤ 1) }
 {
-    if u8_at(kinds, e) == 1 {
-        return 1;
-    }
-    0
+    u16::from(u8_at(kinds, e) == 1)
 }
 
 // Of n edges from e on: how many are True.
+#[tactic(auto, unfolding(crate::specs::Branches::true_count))]
 fn true_count(kinds: &[u8], e: u32, n: u8) -> u16
     ensures { result ≡ true_count kinds.now e n }
 {
@@ -31,6 +29,7 @@ fn true_count(kinds: &[u8], e: u32, n: u8) -> u16
 }
 
 // Whether each of them leads to an address.
+#[tactic(auto, unfolding(crate::specs::Branches::true_lead))]
 fn true_lead(targets: &[u8], kinds: &[u8], va: u64, e: u32, n: u8) -> bool
     ensures { result ≡ true_lead targets.now kinds.now va e n }
 {
@@ -43,6 +42,7 @@ fn true_lead(targets: &[u8], kinds: &[u8], va: u64, e: u32, n: u8) -> bool
 }
 
 // Of a block with c instructions, the last of which is given, and n edges from e on.
+#[tactic(auto, unfolding(crate::specs::Branches::branch_agrees))]
 fn branch_agrees(targets: &[u8], kinds: &[u8], last: &[u8], c: u16, e: u32, n: u8) -> bool
     ensures { result ≡ branch_agrees targets.now kinds.now last.now c e n }
 {
@@ -58,12 +58,10 @@ fn last_of(bodies: &[u8], i: u32, c: u16) -> &[u8]
     ensures { result.now ≡ body_at bodies.now (i + c - 1) }
 {
     let end = i as usize + c as usize;
-    if end == 0 {
-        return from(bodies, 0);
-    }
-    from(bodies, 92 * (end - 1))
+    from(bodies, 92 * end.saturating_sub(1))
 }
 
+#[tactic(auto, unfolding(crate::specs::Branches::branch_ok, crate::specs::Blocks::first_edge, crate::specs::Blocks::first_instruction, crate::specs::Branches::branches_ok))]
 pub fn branches_ok(targets: &[u8], kinds: &[u8], marks: &[u8], bodies: &[u8], blocks: u16) -> bool
     ensures { result ≡ branches_ok targets.now kinds.now marks.now bodies.now blocks }
 {

@@ -3,7 +3,7 @@ ghost use Rattle.std.specs.Prelude.{◌≡◌};
 ghost use Rattle.record.specs.Header.{header_of, fields_ok, limits_ok};
 
 use lists::reads::{u8_at, u16_at, u32_at};
-use lists::signed::{is_zero, signed32};
+use lists::signed::signed32;
 
 #[derive(Clone, Copy)]
 pub struct Header {
@@ -21,6 +21,7 @@ pub struct Header {
     pub text: u16,
 }
 
+#[tactic(auto, unfolding(crate::specs::Header::header_of))]
 pub fn read_header(s: &[u8]) -> Header
     ensures { result ≡ header_of s.now }
 {
@@ -46,7 +47,7 @@ pub fn fields_ok(h: Header) -> bool
     ((h.bits == 16) | (h.bits == 32) | (h.bits == 64))
         & (h.convention <= 1)
         & (h.shifted <= 1)
-        & ((h.shifted == 1) | is_zero(h.shift))
+        & ((h.shifted == 1) | (h.shift == 0))
 }
 
 pub fn limits_ok(h: Header) -> bool

@@ -14,59 +14,59 @@ pub fn size(x: u16) -> usize
 pub fn marks_at(h: Header) -> usize
     ensures { (result ≡ marks_at h) × (result < 1_000_000) }
 {
-    24 + 8 * size(h.blocks)
+    24 + 8 * usize::from(h.blocks)
 }
 
 pub fn targets_at(h: Header) -> usize
     ensures { (result ≡ targets_at h) × (result < 2_000_000) }
 {
-    marks_at(h) + 4 * size(h.blocks)
+    marks_at(h) + 4 * usize::from(h.blocks)
 }
 
 pub fn edge_kinds_at(h: Header) -> usize
     ensures { (result ≡ edge_kinds_at h) × (result < 3_000_000) }
 {
-    targets_at(h) + 8 * size(h.edges)
+    targets_at(h) + 8 * usize::from(h.edges)
 }
 
 pub fn addresses_at(h: Header) -> usize
     ensures { (result ≡ addresses_at h) × (result < 4_000_000) }
 {
-    edge_kinds_at(h) + size(h.edges)
+    edge_kinds_at(h) + usize::from(h.edges)
 }
 
 pub fn bodies_at(h: Header) -> usize
     ensures { (result ≡ bodies_at h) × (result < 5_000_000) }
 {
-    addresses_at(h) + 8 * size(h.instructions)
+    addresses_at(h) + 8 * usize::from(h.instructions)
 }
 
 pub fn entries_at(h: Header) -> usize
     ensures { (result ≡ entries_at h) × (result < 12_000_000) }
 {
-    bodies_at(h) + 92 * size(h.instructions)
+    bodies_at(h) + 92 * usize::from(h.instructions)
 }
 
 pub fn pairs_at(h: Header) -> usize
     ensures { (result ≡ pairs_at h) × (result < 13_000_000) }
 {
-    entries_at(h) + 8 * size(h.atlas)
+    entries_at(h) + 8 * usize::from(h.atlas)
 }
 
 pub fn spans_at(h: Header) -> usize
     ensures { (result ≡ spans_at h) × (result < 14_000_000) }
 {
-    pairs_at(h) + 2 * size(h.atlas)
+    pairs_at(h) + 2 * usize::from(h.atlas)
 }
 
 pub fn texts_at(h: Header) -> usize
     ensures { (result ≡ texts_at h) × (result < 16_000_000) }
 {
-    spans_at(h) + 16 * size(h.spans)
+    spans_at(h) + 16 * usize::from(h.spans)
 }
 
 pub fn size_of(h: Header) -> usize
     ensures { (result ≡ size_of h) × (result < 17_000_000) }
 {
-    texts_at(h) + size(h.text)
+    texts_at(h) + usize::from(h.text)
 }

@@ -10,7 +10,8 @@ fn number_at(numbers: &[u8], k: u16) -> u64
     u64_at(numbers, 8 * k as usize)
 }
 
-// The first of the numbers that is x, where all of them are there: no test of the length stands between the reads.
+// The first of the numbers that is x, where all of them are there. Kept for speed: no test of the length stands between the reads.
+#[tactic(auto, using(crate::proofs::SearchLaws::find_here, crate::proofs::SearchLaws::find_next, crate::proofs::SearchLaws::find_none))]
 fn plain_first(numbers: &[u8], count: u16, x: u64) -> Option<u16>
     requires { 8 * count ≤ length numbers.now }
     ensures { result ≡ find_from numbers.now x 0 count }
@@ -25,6 +26,7 @@ fn plain_first(numbers: &[u8], count: u16, x: u64) -> Option<u16>
 }
 
 // The first of the numbers that is x, one after the other.
+#[tactic(auto, using(crate::proofs::SearchLaws::find_here, crate::proofs::SearchLaws::find_next, crate::proofs::SearchLaws::find_none))]
 pub fn first_of(numbers: &[u8], count: u16, x: u64) -> Option<u16>
     ensures { result ≡ find_from numbers.now x 0 count }
 {

@@ -2,14 +2,15 @@
 -- A block's entry in each array by the ending's case; an array along the blocks; the record's arrays summed.
 use mathlib.Core.Path.{◌≡◌, refl, ◌∙◌}
 use mathlib.Core.List.{List, [], ◌∷◌}
-use Prim.Native.Nat.{ℕ, zero, suc, ◌+◌, ◌*◌, ◌≤◌}
-use native.Mathlib.Nat.{zero-add}
+use Prim.Native.Nat.{ℕ, suc, ◌+◌, ◌*◌, ◌≤◌}
 use native.Mathlib.Omega.{arith}
 use lib.ListN.{length, length-append}
 use Rattle.lists.specs.Little.{little}
 use Rattle.routines.specs.declared.ending.Ending.{Ending}
 use Rattle.routines.specs.declared.ending.Ending.TheVariants.{Ret, Fall, Jmp, Jne}
-use Rattle.routines.specs.Written.{Edge, edges, body_of, targets_of, kinds_of, edge_count, each, entry_of, header_bytes, arrays, record_of}
+use Rattle.routines.specs.declared.fields.Array.{Array}
+use Rattle.routines.specs.declared.fields.Array.TheVariants.{Starts, Marks, Targets, Kinds, Addresses, Bodies}
+use Rattle.routines.specs.Written.{Edge, edges, body_of, targets_of, kinds_of, edge_count, each, entry_of, header_bytes, record_of}
 
 pub length_body : (e : Ending) → length (body_of e) ≡ 92
 unfolding little
@@ -34,14 +35,14 @@ few_edges k Fall = omega arith
 few_edges k (Jmp t) = omega arith
 few_edges k (Jne t) = omega arith
 
-pub length_entry : (a k : ℕ) (e : Ending) → length (entry_of a k e) ≤ 92
+pub length_entry : (a : Array) (k : ℕ) (e : Ending) → length (entry_of a k e) ≤ 92
 unfolding little
-length_entry zero k e = omega arith
-length_entry (suc zero) k e = omega arith
-length_entry (suc (suc zero)) k e = omega (arith, length_targets (edges k e), few_edges k e)
-length_entry (suc (suc (suc zero))) k e = omega (arith, length_kinds (edges k e), few_edges k e)
-length_entry (suc (suc (suc (suc zero)))) k e = omega arith
-length_entry (suc (suc (suc (suc (suc a))))) k e = omega (arith, length_body e)
+length_entry Starts k e = omega arith
+length_entry Marks k e = omega arith
+length_entry Targets k e = omega (arith, length_targets (edges k e), few_edges k e)
+length_entry Kinds k e = omega (arith, length_kinds (edges k e), few_edges k e)
+length_entry Addresses k e = omega arith
+length_entry Bodies k e = omega (arith, length_body e)
 
 module _ (f : ℕ → Ending → List ℕ) (n : ℕ) where
   each_block : ((k : ℕ) (e : Ending) → length (f k e) ≡ n) → (k : ℕ) (r : List Ending) → length (each f k r) ≡ n * length r
@@ -56,23 +57,23 @@ pub length_header : (b e : ℕ) → length (header_bytes b e) ≡ 24
 unfolding little
 length_header b e = refl
 
+-- the record's parts
+pub length_parts : (r : List Ending) → length (record_of r)
+    ≡ 24 + length (each (entry_of Starts) 0 r) + length (each (entry_of Marks) 0 r) + length (each (entry_of Targets) 0 r) + length (each (entry_of Kinds) 0 r)
+    + length (each (entry_of Addresses) 0 r) + length (each (entry_of Bodies) 0 r)
+unfolding record_of little
+length_parts r = simp length-append (omega arith)
+
 pub length_record : (r : List Ending) → length (record_of r) ≡ 24 + 112 * length r + 9 * edge_count 0 r
 unfolding record_of little
 length_record r =
     simp length-append
     (omega (
       arith,
-      each_block (entry_of 0) 8 (λ k e. refl) 0 r,
-      each_block (entry_of 1) 4 (λ k e. refl) 0 r,
-      each_edge (entry_of 2) 8 (λ k e. length_targets (edges k e)) 0 r,
-      each_edge (entry_of 3) 1 (λ k e. length_kinds (edges k e) ∙ omega arith) 0 r,
-      each_block (entry_of 4) 8 (λ k e. refl) 0 r,
-      each_block (entry_of 5) 92 (λ k e. length_body e) 0 r,
+      each_block (entry_of Starts) 8 (λ k e. refl) 0 r,
+      each_block (entry_of Marks) 4 (λ k e. refl) 0 r,
+      each_edge (entry_of Targets) 8 (λ k e. length_targets (edges k e)) 0 r,
+      each_edge (entry_of Kinds) 1 (λ k e. length_kinds (edges k e) ∙ omega arith) 0 r,
+      each_block (entry_of Addresses) 8 (λ k e. refl) 0 r,
+      each_block (entry_of Bodies) 92 (λ k e. length_body e) 0 r,
     ))
-
--- more arrays are no shorter
-pub arrays_grow : (r : List Ending) (a n : ℕ) → length (arrays r a) ≤ length (arrays r (n + a))
-arrays_grow r a zero = rw zero-add (omega arith)
-arrays_grow r a (suc n) =
-    let s : suc n + a ≡ suc (n + a) = omega arith in
-    rw s (omega (arith, arrays_grow r a n, length-append (arrays r (n + a)) (each (entry_of (n + a)) 0 r)))

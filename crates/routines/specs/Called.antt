@@ -1,8 +1,9 @@
 -- What the call promises: what it asks, what it answers and what it leaves in the lent list.
 use Rattle.std.specs.Prelude.{ℕ, ◌≤◌, List, ◌≡◌, ltb, leb, length, take}
 use Rattle.lists.specs.Choice.{ask}
-use Rattle.lists.specs.Stored.{stored_for, left_in}
-use Rattle.lists.specs.declared.stored.Stored.{Stored}
+use Rattle.std.specs.declared.result.Result.{Result}
+use Rattle.lists.specs.Question.{Answers, left_in}
+use Rattle.lists.specs.declared.question.Question.{Question}
 use Rattle.record.specs.Header.{header_of}
 use Rattle.record.specs.Asked.{first_no}
 use Rattle.routines.specs.Routine.{FullSet}
@@ -18,8 +19,8 @@ module _ (k : ℕ) where
   unfoldable pub routine_no : ℕ → ℕ
   routine_no room = ask 18 (ltb k 276) (ask 12 (leb (length made) room) 0)
 
-  pub record Makes (out out' : List ℕ) (r : Stored) : Type 0 where
-    pub answer : r ≡ stored_for (routine_no (length out)) (length made)
+  pub record Makes (out out' : List ℕ) (r : Result ℕ Question) : Type 0 where
+    pub answer : Answers (routine_no (length out)) (length made) r
     pub list : out' ≡ left_in (routine_no (length out)) made out
     -- "Each comes exactly once, none is missing"
     pub all : FullSet routine_at

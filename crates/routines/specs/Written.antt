@@ -1,11 +1,13 @@
 -- A routine as a record.
-use Rattle.std.specs.Prelude.{ℕ, zero, suc, ◌+◌, ◌*◌, ◌-◌, List, [], ◌∷◌, ◌++◌, Bool, true, ltb, length, replicate}
+use Rattle.std.specs.Prelude.{ℕ, suc, ◌+◌, ◌*◌, ◌-◌, List, [], ◌∷◌, ◌++◌, Bool, true, ltb, length, replicate}
 use Rattle.lists.specs.Ascii.{ascii}
 use Rattle.lists.specs.Little.{little}
 use Rattle.x86.specs.Mnemonics.{mov, ret, jmp}
 use Rattle.x86.specs.Registers.{dword}
 use Rattle.routines.specs.declared.ending.Ending.{Ending}
 use Rattle.routines.specs.declared.ending.Ending.TheVariants.{Ret, Fall, Jmp, Jne}
+use Rattle.routines.specs.declared.fields.Array.{Array}
+use Rattle.routines.specs.declared.fields.Array.TheVariants.{Starts, Marks, Targets, Kinds, Addresses, Bodies}
 
 -- "block k, from 0, starting at 0x1000 + 16 × k"
 abbrev pub start : ℕ → ℕ
@@ -86,15 +88,15 @@ abbrev pub edge_count : ℕ → List Ending → ℕ
 edge_count k [] = 0
 edge_count k (e ∷ r) = length (edges k e) + edge_count (suc k) r
 
--- block k's entry in array a: "B u64 block starts; B marks of u16 instruction count, u8 edge count, u8 label wanted (0 or 1)", "E u64 targets; E u8
+-- block k's entry in an array: "B u64 block starts; B marks of u16 instruction count, u8 edge count, u8 label wanted (0 or 1)", "E u64 targets; E u8
 -- kinds", "I u64 addresses; I bodies of 92 bytes"; "all labels wanted", "An instruction's address is its block's start"
-abbrev pub entry_of : ℕ → ℕ → Ending → List ℕ
-entry_of zero k e = little 8 (start k)
-entry_of (suc zero) k e = little 2 1 ++ little 1 (length (edges k e)) ++ little 1 1
-entry_of (suc (suc zero)) k e = targets_of (edges k e)
-entry_of (suc (suc (suc zero))) k e = kinds_of (edges k e)
-entry_of (suc (suc (suc (suc zero)))) k e = little 8 (start k)
-entry_of (suc (suc (suc (suc (suc a))))) k e = body_of e
+abbrev pub entry_of : Array → ℕ → Ending → List ℕ
+entry_of Starts k e = little 8 (start k)
+entry_of Marks k e = little 2 1 ++ little 1 (length (edges k e)) ++ little 1 1
+entry_of Targets k e = targets_of (edges k e)
+entry_of Kinds k e = kinds_of (edges k e)
+entry_of Addresses k e = little 8 (start k)
+entry_of Bodies k e = body_of e
 
 -- "Bits are 64, convention 1, indent 1, all labels wanted, no atlas and no spans."
 abbrev pub header_bytes : ℕ → ℕ → List ℕ
@@ -102,10 +104,8 @@ header_bytes blocks edges =
     little 2 64 ++ little 2 1 ++ little 2 blocks ++ little 2 blocks ++ little 2 edges ++ little 2 0 ++ little 2 0 ++ little 2 0
     ++ little 4 0 ++ little 1 0 ++ little 1 1 ++ little 2 0
 
--- the first n arrays
-abbrev pub arrays : List Ending → ℕ → List ℕ
-arrays r zero = []
-arrays r (suc a) = arrays r a ++ each (entry_of a) 0 r
-
 unfoldable pub record_of : List Ending → List ℕ
-record_of r = header_bytes (length r) (edge_count 0 r) ++ arrays r 6
+record_of r =
+    header_bytes (length r) (edge_count 0 r)
+    ++ each (entry_of Starts) 0 r ++ each (entry_of Marks) 0 r ++ each (entry_of Targets) 0 r ++ each (entry_of Kinds) 0 r
+    ++ each (entry_of Addresses) 0 r ++ each (entry_of Bodies) 0 r

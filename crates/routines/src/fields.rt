@@ -3,10 +3,22 @@
 ghost use Rattle.std.specs.Prelude.{◌≡◌, true, ℕ, ◌+◌, ◌<◌, ◌≤◌, length, set};
 ghost use Rattle.lists.specs.Little.{little};
 ghost use Rattle.lists.specs.Put.{put};
+ghost use Rattle.routines.specs.declared.fields.Array.TheVariants.{Marks};
 ghost use Rattle.routines.specs.Written.{inside, start, edges, body_of, targets_of, kinds_of, entry_of};
 
 use crate::ending::Ending;
 use lists::stores::{put_slice, put_u16, put_u64, store};
+
+// A record's arrays of what its blocks have, as they stand behind its header.
+#[derive(Clone, Copy)]
+pub enum Array {
+    Starts,
+    Marks,
+    Targets,
+    Kinds,
+    Addresses,
+    Bodies,
+}
 
 // Block k's start.
 fn start(k: usize) -> u64
@@ -22,8 +34,7 @@ pub fn edges_in(e: Ending) -> usize
 {
     match e {
         Ending::Ret => 0,
-        Ending::Fall => 1,
-        Ending::Jmp(_) => 1,
+        Ending::Fall | Ending::Jmp(_) => 1,
         Ending::Jne(_) => 2,
     }
 }
@@ -32,7 +43,7 @@ pub fn edges_in(e: Ending) -> usize
 fn put_mark(out: &mut [u8], at: usize, e: Ending) -> usize
     requires { at < 1000 }
     ensures end { result ≡ at + 4 }
-    ensures bytes { (k : ℕ) → out.new ≡ put at (entry_of 1 k e) out.old }
+    ensures bytes { (k : ℕ) → out.new ≡ put at (entry_of Marks k e) out.old }
 {
     put_u16(out, at, 1);
     store(out, at + 2, edges_in(e) as u8);
@@ -124,23 +135,18 @@ fn put_body(out: &mut [u8], at: usize, e: Ending) -> usize
     at + 92
 }
 
-// Block k's entry in array a: starts, marks, targets, kinds, addresses, bodies.
-pub fn put_entry(out: &mut [u8], at: usize, a: usize, k: usize, e: Ending) -> usize
-    requires { (at + length (entry_of a k e) ≤ length out.old) × (at < 1000) × (a < 6) × (k < 3) × (inside e ≡ true) }
+// Block k's entry in an array.
+pub fn put_entry(out: &mut [u8], at: usize, a: Array, k: usize, e: Ending) -> usize
+    requires { (at + length (entry_of a k e) ≤ length out.old) × (at < 1000) × (k < 3) × (inside e ≡ true) }
     ensures end { result ≡ at + length (entry_of a k e) }
     ensures bytes { out.new ≡ put at (entry_of a k e) out.old }
 {
-    if a == 1 {
-        return put_mark(out, at, e);
+    match a {
+        Array::Starts => put_u64(out, at, start(k)),
+        Array::Marks => put_mark(out, at, e),
+        Array::Targets => put_targets(out, at, k, e),
+        Array::Kinds => put_kinds(out, at, e),
+        Array::Addresses => put_u64(out, at, start(k)),
+        Array::Bodies => put_body(out, at, e),
     }
-    if a == 2 {
-        return put_targets(out, at, k, e);
-    }
-    if a == 3 {
-        return put_kinds(out, at, e);
-    }
-    if a == 5 {
-        return put_body(out, at, e);
-    }
-    put_u64(out, at, start(k))
 }

@@ -2,12 +2,12 @@
 ghost use Rattle.std.specs.Prelude.{◌≡◌, ◌+◌, ◌<◌, ◌≤◌, length};
 ghost use Rattle.lists.specs.Put.{put};
 ghost use Rattle.routines.specs.Numbered.{routine_at};
-ghost use Rattle.routines.specs.Written.{edge_count, entry_of, each, header_bytes, arrays, record_of};
+ghost use Rattle.routines.specs.Written.{edge_count, entry_of, each, header_bytes, record_of};
 ghost use Rattle.routines.specs.Called.{Makes};
 
 use crate::ending::{blocks_of, ending_at};
-use crate::fields::{edges_in, put_entry};
-use lists::stored::Stored;
+use crate::fields::{Array, edges_in, put_entry};
+use lists::question::Question;
 use lists::stores::{put_u16, put_u64, store};
 
 // How many edges routine k has.
@@ -49,9 +49,9 @@ fn put_header(out: &mut [u8], blocks: usize, edges: usize) -> usize
     put_u16(out, 22, 0)
 }
 
-// Array a of routine k.
-fn put_array(out: &mut [u8], at: usize, a: usize, k: usize) -> usize
-    requires { (k < 276) × (a < 6) × (at + length (each (entry_of a) 0 (routine_at k)) ≤ length out.old) × (at < 500) }
+// An array of routine k.
+fn put_array(out: &mut [u8], at: usize, a: Array, k: usize) -> usize
+    requires { (k < 276) × (at + length (each (entry_of a) 0 (routine_at k)) ≤ length out.old) × (at < 500) }
     ensures end { result ≡ at + length (each (entry_of a) 0 (routine_at k)) }
     ensures bytes { out.new ≡ put at (each (entry_of a) 0 (routine_at k)) out.old }
 {
@@ -68,23 +68,26 @@ fn put_record(out: &mut [u8], k: usize)
     requires { (k < 276) × (length (record_of (routine_at k)) ≤ length out.old) }
     ensures { out.new ≡ put 0 (record_of (routine_at k)) out.old }
 {
-    let mut next = put_header(out, blocks_of(k), edges_of(k));
-    for a in 0..6 {
-        next = put_array(out, next, a, k);
-    }
+    let starts = put_header(out, blocks_of(k), edges_of(k));
+    let marks = put_array(out, starts, Array::Starts, k);
+    let targets = put_array(out, marks, Array::Marks, k);
+    let kinds = put_array(out, targets, Array::Targets, k);
+    let addresses = put_array(out, kinds, Array::Kinds, k);
+    let bodies = put_array(out, addresses, Array::Addresses, k);
+    put_array(out, bodies, Array::Bodies, k);
 }
 
 // Routine k as a record, or 18 if there is none with this number, or 12 if the list is shorter.
-pub fn routine(k: usize, out: &mut [u8]) -> Stored
+pub fn routine(k: usize, out: &mut [u8]) -> Result<usize, Question>
     ensures { Makes k out.old out.new result }
 {
     if k >= 276 {
-        return Stored::No(18);
+        return Err(Question::Routine);
     }
     let size = size_of(k);
     if out.len() < size {
-        return Stored::No(12);
+        return Err(Question::TextRoom);
     }
     put_record(out, k);
-    Stored::Bytes(size)
+    Ok(size)
 }

@@ -1,4 +1,5 @@
-// Standard input into a list: what every program does before its answer.
+// What every program does before and after its answer: standard input into a list, and the answer to standard output.
 #![tactic(auto)]
 
 pub mod input;
+pub mod output;

@@ -8,8 +8,11 @@ use native.Mathlib.Omega.{arith}
 use borrow.Author.Tests.{le-leb, eqb-true}
 use lib.ListN.{length, take, length-take}
 use lib.Seq.{take_all, take-take}
-use Rattle.lists.specs.Stored.{stored_for, left_in}
-use Rattle.lists.specs.declared.stored.Stored.{Stored}
+use Rattle.std.specs.declared.result.Result.{Result}
+use Rattle.std.specs.Prelude.{Ok, Err}
+use Rattle.lists.specs.Question.{Answers, left_in}
+use Rattle.lists.specs.declared.question.Question.{Question}
+use Rattle.lists.proofs.Answered.{number_some}
 use Rattle.record.specs.declared.header.Header.{Header}
 use Rattle.record.specs.Header.{header_of}
 use Rattle.record.specs.Layout.{size_of}
@@ -37,9 +40,11 @@ sizes_alone s room h = go (sizes_no s) refl
     go (suc n) e = rw e
 
 -- what is printed of what a call left, by its number
-output_is : (n m : ℕ) (t e : List ℕ) → (n ≡ 0 → (m ≡ length t) × (m ≤ length e)) → stored_output (stored_for n m) (left_in n t e) ≡ output_for n t
-output_is zero m t e h = let p = h refl in stands_whole t e _ m p.0 refl p.1
-output_is (suc n) m t e h = refl
+output_is : (n m : ℕ) (t e : List ℕ) (r : Result ℕ Question) → Answers n m r → (n ≡ 0 → (m ≡ length t) × (m ≤ length e)) → stored_output r (left_in n t e) ≡ output_for n t
+output_is zero m t e (Ok y) v h = stands_whole t e _ y (v.1 ∙ (h refl).0) refl (omega (arith, v.1, (h refl).1))
+output_is zero m t e (Err q) v h = absurd (omega (arith, v, number_some q))
+output_is (suc k) m t e (Ok y) v h = absurd (omega (arith, v.0))
+output_is (suc k) m t e (Err q) v h = ap refusal (sym v)
 
 module _ (rows columns : Header → ℕ) where
   refused_printed : (s : List ℕ) (k : ℕ) → sizes_no s ≡ suc k → printed rows columns s ≡ refusal (suc k)
@@ -64,14 +69,15 @@ module _ (rows columns : Header → ℕ) where
         let p = is_rearranged rows columns s asked all in
         rw (asked, p.asked) p.restored
 
-    is_printed : (e e' : List ℕ) (r : Stored) → 65536 ≤ length e → Stores rows columns s e e' r → stored_output r e' ≡ printed rows columns s
+    is_printed : (e e' : List ℕ) (r : Result ℕ Question) → 65536 ≤ length e → Stores rows columns s e e' r → stored_output r e' ≡ printed rows columns s
     unfolding printed
     is_printed e e' r room told =
-        rw (told.answer, told.list, sizes_alone s (length e) room)
-        (output_is (sizes_no s) (length s) (rearranged rows columns s) e
+        let only = sizes_alone s (length e) room in
+        rw (told.list, only)
+        (output_is (sizes_no s) (length s) (rearranged rows columns s) e r (rw only at told.answer)
         (λ asked. (sym (is_rearranged rows columns s asked all).long, omega (arith, record_small s asked))))
 
-    pub prints : (e e' out : List ℕ) (r : Stored) → 65536 ≤ length e → Stores rows columns s e e' r → out ≡ stored_output r e' → Prints rows columns s out
+    pub prints : (e e' out : List ℕ) (r : Result ℕ Question) → 65536 ≤ length e → Stores rows columns s e e' r → out ≡ stored_output r e' → Prints rows columns s out
     prints e e' out r room told is =
         let text = is ∙ is_printed e e' r room told in
         record {

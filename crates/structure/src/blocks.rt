@@ -20,6 +20,7 @@ pub struct Written {
 }
 
 // Whether the block at place i of a range has a label: the outside test is asked only of a range's first block.
+#[tactic(auto, unfolding(crate::specs::Looks::label_looks))]
 fn is_labelled(
     blocks: &[u16],
     edges: &[u16],

@@ -80,82 +80,49 @@ fn closed_byte(b: u8, j: usize) -> u8
 }
 
 // \u{..} around the hex digits of b.
+#[tactic(auto, unfolding(crate::specs::Literal::code_text))]
 fn code_byte(b: u8, j: usize) -> u8
     ensures { result ≡ get_or (code_text b) j 0 }
 {
-    if j == 0 {
-        return b'\\';
+    match j {
+        0 => b'\\',
+        1 => b'u',
+        2 => b'{',
+        _ => closed_byte(b, j - 3),
     }
-    if j == 1 {
-        return b'u';
-    }
-    if j == 2 {
-        return b'{';
-    }
-    closed_byte(b, j - 3)
 }
 
 // A backslash and a letter.
 fn pair_byte(letter: u8, j: usize) -> u8
     ensures { result ≡ get_or (92 ∷ letter ∷ []) j 0 }
 {
-    if j == 0 {
-        return b'\\';
+    match j {
+        0 => b'\\',
+        1 => letter,
+        _ => 0,
     }
-    if j == 1 {
-        return letter;
-    }
-    0
-}
-
-// The spelling of a byte that does not stand for itself.
-fn spelling_byte(b: u8, j: usize) -> u8
-    ensures { result ≡ get_or (letter_or b (code_text b)) j 0 }
-{
-    if b == 0 {
-        return pair_byte(b'0', j);
-    }
-    if b == 9 {
-        return pair_byte(b't', j);
-    }
-    if b == 13 {
-        return pair_byte(b'r', j);
-    }
-    if b == 10 {
-        return pair_byte(b'n', j);
-    }
-    if b == 39 {
-        return pair_byte(39, j);
-    }
-    if b == 34 {
-        return pair_byte(34, j);
-    }
-    if b == 92 {
-        return pair_byte(92, j);
-    }
-    code_byte(b, j)
 }
 
 // The spelling of b.
+#[tactic(auto, unfolding(crate::specs::Literal::escape, crate::specs::Literal::unseen))]
 fn escape_byte(b: u8, j: usize) -> u8
     ensures { result ≡ get_or (escape b) j 0 }
 {
-    if (b < 0x20) | (b == 0x7f) | (b == 39) | (b == 34) | (b == 92) {
-        return spelling_byte(b, j);
+    match b {
+        0 => pair_byte(b'0', j),
+        b'\t' => pair_byte(b't', j),
+        b'\r' => pair_byte(b'r', j),
+        b'\n' => pair_byte(b'n', j),
+        b'\'' | b'"' | b'\\' => pair_byte(b, j),
+        0..=0x1f | 0x7f => code_byte(b, j),
+        _ => if j == 0 { b } else { 0 },
     }
-    if j == 0 {
-        return b;
-    }
-    0
 }
 
 fn quote_byte(j: usize) -> u8
     ensures { result ≡ get_or (ascii "\"") j 0 }
 {
-    if j == 0 {
-        return b'"';
-    }
-    0
+    if j == 0 { b'"' } else { 0 }
 }
 
 fn opening_byte(wide: bool, j: usize) -> u8
@@ -170,22 +137,19 @@ fn opening_byte(wide: bool, j: usize) -> u8
     quote_byte(j)
 }
 
+#[tactic(auto, unfolding(crate::specs::Literal::closing))]
 fn closing_byte(longer: bool, j: usize) -> u8
     ensures { result ≡ get_or (closing longer) j 0 }
 {
-    if longer {
-        if j == 0 {
-            return 0xe2;
-        }
-        if j == 1 {
-            return 0x80;
-        }
-        if j == 2 {
-            return 0xa6;
-        }
-        return quote_byte(j - 3);
+    if !longer {
+        return quote_byte(j);
     }
-    quote_byte(j)
+    match j {
+        0 => 0xe2,
+        1 => 0x80,
+        2 => 0xa6,
+        _ => quote_byte(j - 3),
+    }
 }
 
 // The spellings of the first 80 bytes and what closes a literal; k counts from the spelling of byte i on.
@@ -194,8 +158,7 @@ fn inside_byte(s: &[u8], j: usize) -> u8
 {
     let n = s.len().min(80);
     let mut k = j;
-    for i in 0..n {
-        let b = s[i];
+    for &b in &s[..n] {
         let m = escape_length(b);
         if k < m {
             return escape_byte(b, k);

@@ -23,24 +23,16 @@ pub fn num_length(negative: bool, size: u64) -> usize
     size_length(size)
 }
 
-// The spelling of a byte that does not stand for itself.
-fn spelling_length(b: u8) -> usize
-    ensures { result ≡ length (letter_or b (code_text b)) }
-{
-    if (b == 0) | (b == 9) | (b == 13) | (b == 10) | (b == 39) | (b == 34) | (b == 92) {
-        return 2;
-    }
-    4 + hex_count(b as u64)
-}
-
 // The spelling of a byte: of most the byte itself.
+#[tactic(auto, unfolding(crate::specs::Literal::escape, crate::specs::Literal::unseen, crate::specs::Literal::code_text))]
 pub fn escape_length(b: u8) -> usize
     ensures { (result ≡ length (escape b)) × (result ≤ 6) }
 {
-    if (b < 0x20) | (b == 0x7f) | (b == 39) | (b == 34) | (b == 92) {
-        return spelling_length(b);
+    match b {
+        0 | b'\t' | b'\r' | b'\n' | b'\'' | b'"' | b'\\' => 2,
+        0..=0x1f | 0x7f => 4 + hex_count(b as u64),
+        _ => 1,
     }
-    1
 }
 
 // The spellings of the first 80 bytes.
@@ -49,8 +41,8 @@ fn escapes_length(s: &[u8]) -> usize
 {
     let n = s.len().min(80);
     let mut sum: usize = 0;
-    for i in 0..n {
-        sum += escape_length(s[i]);
+    for &b in &s[..n] {
+        sum += escape_length(b);
     }
     sum
 }

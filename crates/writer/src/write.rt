@@ -25,6 +25,7 @@ pub struct Cursor {
 }
 
 // The text of a code, in the rest of the lent text; answers the bytes it added.
+#[tactic(auto, unfolding(codes::specs::Code::text_in))]
 fn write_text(out: &mut [u8], tables: &[u8], rec: &[u8], c: u64, v: u64) -> usize
     requires { length (text_in tables.now rec.now c v) ≤ length out.old }
     ensures count { result ≡ length (text_in tables.now rec.now c v) }
@@ -33,22 +34,14 @@ fn write_text(out: &mut [u8], tables: &[u8], rec: &[u8], c: u64, v: u64) -> usiz
     let what = c / 16 % 16;
     let at = (c / 16777216) as usize;
     let n = (c / 256 % 65536) as usize;
-    if what == 0 {
-        return put_slice(out, part(tables, at, n));
+    match what {
+        0 => put_slice(out, part(tables, at, n)),
+        1 => put_slice(out, part(rec, at, n)),
+        2 => write_num(out, false, v),
+        3 => write_num(out, true, v),
+        4 => write_prefixed(out, part(tables, at + 2, u8_at(tables, at + 1) as usize), v),
+        _ => put_literal(out, what == 6, part(rec, at, n)),
     }
-    if what == 1 {
-        return put_slice(out, part(rec, at, n));
-    }
-    if what == 2 {
-        return write_num(out, false, v);
-    }
-    if what == 3 {
-        return write_num(out, true, v);
-    }
-    if what == 4 {
-        return write_prefixed(out, part(tables, at + 2, u8_at(tables, at + 1) as usize), v);
-    }
-    put_literal(out, what == 6, part(rec, at, n))
 }
 
 // The end and the kind of a token with n bytes: where it goes on with the one before they take that one's place.

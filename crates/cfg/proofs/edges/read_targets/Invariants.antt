@@ -3,7 +3,7 @@
 use mathlib.Core.Path.{◌≡◌}
 use mathlib.Core.Bool.{Bool, false, not, ◌&&◌}
 use mathlib.Core.List.{List}
-use Prim.Native.Nat.{ℕ, ◌+◌, ◌-◌, ◌*◌, ◌≤◌}
+use Prim.Native.Nat.{ℕ, ◌+◌, ◌*◌}
 use lib.Dec.{ltb, eqb}
 use Rattle.lists.specs.Bytes.{u64_at}
 use Rattle.lists.specs.Choice.{any_below}
@@ -14,7 +14,4 @@ abbrev leads : List ℕ → ℕ → ℕ → ℕ → Bool
 leads targets first excepted k = ltb (u64_at targets (8 * k)) first && not (eqb (u64_at targets (8 * k)) excepted)
 
 abbrev pub invariant-loop-k : goal.invariant-loop-k
-invariant-loop-k l = (l.k ≤ l.n) × (any_below (λ j. leads l.targets l.first.0 l.excepted.0 (l.e + j)) l.k ≡ false)
-
-abbrev pub decreases-loop-k : goal.decreases-loop-k
-decreases-loop-k l = l.n - l.k
+invariant-loop-k l = any_below (λ j. leads l.targets l.first.0 l.excepted.0 (l.e + j)) l.k ≡ false

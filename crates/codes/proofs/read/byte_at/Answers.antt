@@ -10,7 +10,7 @@ returns-then-k-n c =
     let l = c.loop-i in
     let u = c.element_or-v in
     let m = c.length_of-n in
-    in_code a.tables.now a.rec.now a.codes.now l.i _ u.result m.result l.k c.loop-i-test.true refl u.ensures.0 m.ensures _ _ c.if-k-n.true c.byte_in.ensures l.invariant
+    in_code a.tables.now a.rec.now a.codes.now l.i _ u.result m.result l.k c.loop-i-test.true refl u.ensures m.ensures _ _ c.if-k-n.true c.byte_in.ensures l.invariant
 
 pub loop-i-preserved : goal.loop-i-preserved
 loop-i-preserved c =
@@ -18,7 +18,7 @@ loop-i-preserved c =
     let l = c.loop-i in
     let u = c.element_or-v in
     let m = c.length_of-n in
-    sym (behind_code a.tables.now a.rec.now a.codes.now l.i c.width-i.result u.result m.result l.k c.loop-i-test.true c.width-i.ensures u.ensures.0 m.ensures c.if-k-n.false)
+    sym (behind_code a.tables.now a.rec.now a.codes.now l.i c.width-i.result u.result m.result l.k c.loop-i-test.true c.width-i.ensures u.ensures m.ensures c.if-k-n.false)
     ∙ l.invariant
 
 pub returns : goal.returns

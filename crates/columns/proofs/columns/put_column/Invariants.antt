@@ -1,7 +1,7 @@
 -- `columns::put_column` meets its contract.
 -- The invariant: the column's first i bytes are stored, and the next stands where `from` is.
 use mathlib.Core.Path.{◌≡◌}
-use Prim.Native.Nat.{◌+◌, ◌*◌, ◌-◌, ◌≤◌}
+use Prim.Native.Nat.{◌+◌, ◌*◌, ◌≤◌}
 use lib.ListN.{length, get_or}
 use Rattle.lists.specs.Entries.{tab}
 use Rattle.lists.specs.Put.{put}

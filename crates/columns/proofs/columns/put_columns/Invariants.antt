@@ -1,7 +1,7 @@
 -- `columns::put_columns` meets its contract.
 -- The invariant: the first j columns are stored, one behind the other.
 use mathlib.Core.Path.{◌≡◌}
-use Prim.Native.Nat.{◌+◌, ◌*◌, ◌-◌, ◌≤◌}
+use Prim.Native.Nat.{◌+◌, ◌*◌, ◌≤◌}
 use lib.ListN.{length, drop}
 use Rattle.lists.specs.Entries.{tab}
 use Rattle.lists.specs.Put.{put}

@@ -7,4 +7,4 @@ use Rattle.operand.proofs.memory.code_named.Goals as goal
 pub returns : goal.returns
 returns c =
     let a = c.args in
-    entry_addressed a.h a.k _ a.deref _ (part_is _ _ _ _ c.from.ensures.0 c.pairs_at.ensures.0) c.entry_kind.ensures (c.code_if.ensures a.rec.now) c.code_entry.ensures
+    entry_addressed a.h a.k _ a.deref _ (part_is _ _ _ _ c.from.ensures.0 c.pairs_at.ensures.0) c.entry_kind.ensures (c.code_if.ensures a.rec.now) (c.code_entry.ensures _)

@@ -6,7 +6,7 @@ use Rattle.operand.proofs.names.name_or.Goals as goal
 
 pub returns-in-Some : goal.returns-in-Some
 unfolding name_or
-returns-in-Some c = rw (sym c.entry_at.ensures, c.in-Some.is) c.code_entry.ensures
+returns-in-Some c = rw (sym c.entry_at.ensures, c.in-Some.is) (c.code_entry.ensures _)
 
 pub returns-in-None : goal.returns-in-None
 unfolding name_or

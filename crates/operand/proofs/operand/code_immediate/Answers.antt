@@ -7,7 +7,7 @@ use Rattle.operand.proofs.operand.code_immediate.Goals as goal
 pub returns-then-in_window : goal.returns-then-in_window
 returns-then-in_window c t s =
     let a = c.args in
-    as_token _ _ (in_window_lem a.kind a.v _ _ c.signed_read-s.ensures c.in_window.ensures c.if-in_window.true _ c.magnitude.ensures.0) (c.code_num.ensures t s)
+    as_token _ _ (in_window_lem a.kind a.v _ _ c.signed_read-s.ensures c.in_window.ensures c.if-in_window.true _ c.unsigned_abs.ensures.value) (c.code_num.ensures t s)
 
 pub returns : goal.returns
 returns c t s =

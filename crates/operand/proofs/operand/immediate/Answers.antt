@@ -12,4 +12,4 @@ returns-then-is_address c =
 pub returns : goal.returns
 returns c =
     let a = c.args in
-    as_tokens (not_in_span a.h a.rec.now a.kind a.v (made _ _ _ c.is_address.ensures c.if-is_address.false)) (c.code_immediate.ensures a.tables.now a.rec.now)
+    as_tokens (not_in_span a.h a.rec.now a.kind a.v (made _ _ _ c.is_address.ensures c.if-is_address.false)) (c.code_immediate.ensures _ a.rec.now)

@@ -1,11 +1,7 @@
 -- `line::put_run` meets its contract.
--- The invariant: to store what is left from here is to store all from the start.
-use Rattle.page.proofs.Pieces.{run_turn, run_done}
-use borrow.Author.Rules.{rules}
+-- What is filled is the run as far as the list goes; past the list nothing is stored.
+use Rattle.page.proofs.Pieces.{filled}
 use Rattle.page.proofs.line.put_run.Goals as goal
 
-pub loop-i-preserved : goal.loop-i-preserved
-loop-i-preserved c = (search rules, search rules, run_turn c.args.at c.args.n c.args.b c.loop-i.i _ _ _ c.loop-i-test.true c.store.ensures c.loop-i.invariant.2)
-
 pub returns : goal.returns
-returns c = run_done c.args.at c.args.n c.args.b c.loop-i.i _ _ c.loop-i-test.false c.loop-i.invariant.2
+returns c = filled _ _ _ _ _ _ c.min-start.ensures c.min-end.ensures _ (c.fill.ensures.after (λ y e. e))

@@ -4,7 +4,7 @@ use native.Mathlib.Omega.{arith}
 use Rattle.page.proofs.Pieces.{stands_whole}
 use Rattle.page.proofs.number.put_stored.Goals as goal
 
-pub returns-in-No : goal.returns-in-No
-returns-in-No c =
+pub returns-in-Err : goal.returns-in-Err
+returns-in-Err c =
     let p = c.put_refusal in
-    rw c.in-No.is (stands_whole _ _ _ _ p.ensures.end.0 p.ensures.text (omega (arith, p.ensures.end.1, c.requires)))
+    rw c.in-Err.is (stands_whole _ _ _ _ p.ensures.end.0 p.ensures.text (omega (arith, p.ensures.end.1, c.requires)))

@@ -6,5 +6,5 @@ use Rattle.page.proofs.page.put_page.Goals as goal
 
 pub returns : goal.returns
 returns c = let a = c.args in
-    let p = page_puts a.text.now a.ends.now a.lines.now a.addresses.now a.marks.now a.n _ _ _ _ _ c.put_count-at.ensures.end.0 c.put_count-at.ensures.text c.put_lines.ensures.end c.put_lines.ensures.text in
+    let p = page_puts a.l.now a.n _ _ _ _ _ c.put_count-at.ensures.end.0 c.put_count-at.ensures.text c.put_lines.ensures.end c.put_lines.ensures.text in
     record { end = omega (arith, p.end); text = p.text }

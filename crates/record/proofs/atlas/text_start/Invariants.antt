@@ -6,4 +6,4 @@ use Rattle.record.specs.Atlas.{text_start}
 use Rattle.record.proofs.atlas.text_start.Given as goal
 
 abbrev pub invariant-loop-i : goal.invariant-loop-i
-invariant-loop-i l = (l.i ≤ l.k) × (l.sum ≤ 255 * l.i) × (l.sum ≡ text_start l.pairs l.i)
+invariant-loop-i l = (l.sum ≤ 255 * l.i) × (l.sum ≡ text_start l.pairs l.i)

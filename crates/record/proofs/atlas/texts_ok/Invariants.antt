@@ -9,5 +9,5 @@ use Rattle.record.proofs.atlas.texts_ok.Given as goal
 
 abbrev pub invariant-loop-k : goal.invariant-loop-k
 invariant-loop-k l =
-    (l.k ≤ l.atlas) × (l.at ≤ 255 * l.k) × (l.at ≡ text_start l.pairs l.k)
+    (l.at ≤ 255 * l.k) × (l.at ≡ text_start l.pairs l.k)
     × (l.ok ≡ all_below (λ j. text_ok (entry_kind l.pairs j) (entry_length l.pairs j) (drop (text_start l.pairs j) l.texts)) l.k)

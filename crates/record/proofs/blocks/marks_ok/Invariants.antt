@@ -9,5 +9,5 @@ use Rattle.record.proofs.blocks.marks_ok.Given as goal
 
 abbrev pub invariant-loop-k : goal.invariant-loop-k
 invariant-loop-k l =
-    (l.k ≤ l.blocks) × (l.total ≤ 65535 * l.k) × (l.sum ≤ 255 * l.k)
+    (l.total ≤ 65535 * l.k) × (l.sum ≤ 255 * l.k)
     × (l.total ≡ sum_below (instructions_in l.marks) l.k) × (l.sum ≡ sum_below (edges_in l.marks) l.k) × (l.ok ≡ all_below (λ j. leb (label_mark l.marks j) 1) l.k)

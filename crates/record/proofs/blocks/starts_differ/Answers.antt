@@ -1,7 +1,6 @@
 -- Question 6: `starts_differ` meets its contract.
 -- Starts that rise differ. For the others the invariant: every start so far is new.
-use mathlib.Core.Path.{◌≡◌, sym, ◌∙◌}
-use native.Mathlib.Omega.{arith}
+use mathlib.Core.Path.{sym, ◌∙◌}
 use borrow.Author.Rules.{rules}
 use Rattle.lists.specs.Below.{all_fails}
 use Rattle.record.specs.Blocks.{start_is_new, starts_differ}
@@ -17,9 +16,3 @@ returns-then-not-start_is_new c =
     let a = c.args in
     let n = c.start_is_new in
     sym (all_fails (start_is_new a.starts.now) a.blocks c.loop-k.k (search rules) (sym n.ensures ∙ c.if-not-start_is_new.true))
-
-pub returns : goal.returns
-unfolding starts_differ
-returns c =
-    let e : c.loop-k.k ≡ c.args.blocks = omega arith in
-    sym (rw e at c.loop-k.invariant.1)

@@ -2,10 +2,9 @@
 -- Starts that rise differ. For the others the invariant: every start so far is new.
 use mathlib.Core.Path.{◌≡◌}
 use mathlib.Core.Bool.{true}
-use Prim.Native.Nat.{◌≤◌}
 use Rattle.lists.specs.Choice.{all_below}
 use Rattle.record.specs.Blocks.{start_is_new}
 use Rattle.record.proofs.blocks.starts_differ.Given as goal
 
 abbrev pub invariant-loop-k : goal.invariant-loop-k
-invariant-loop-k l = (l.k ≤ l.blocks) × (all_below (start_is_new l.starts) l.k ≡ true)
+invariant-loop-k l = all_below (start_is_new l.starts) l.k ≡ true

@@ -9,4 +9,4 @@ pub returns : goal.returns
 unfolding is_name
 returns c =
     let e : c.loop-k.k ≡ 23 = omega arith in
-    simp (c.name_byte-2.ensures, c.u8_at-first.ensures.0, c.loop-k.invariant.2, e)
+    simp (c.name_byte-2.ensures, c.u8_at-first.ensures.0, c.loop-k.invariant.1, e)

@@ -1,7 +1,6 @@
 -- `plain_bodies_ok` meets its contract.
 -- The invariant: every body so far is right.
-use mathlib.Core.Path.{◌≡◌, sym, ap, ◌∙◌}
-use native.Mathlib.Omega.{arith}
+use mathlib.Core.Path.{sym, ap, ◌∙◌}
 use borrow.Author.Rules.{rules}
 use Rattle.lists.specs.Below.{all_fails}
 use Rattle.record.specs.Body.{body_at, body_ok, bodies_ok}
@@ -13,9 +12,3 @@ returns-then-not-plain_body_ok c =
     let a = c.args in
     let n = c.plain_body_ok in
     sym (all_fails (λ j. body_ok (body_at a.bodies.now j)) a.instructions c.loop-i.i (search rules) (sym (n.ensures ∙ ap body_ok c.body_at.ensures) ∙ c.if-not-plain_body_ok.true))
-
-pub returns : goal.returns
-unfolding bodies_ok
-returns c =
-    let e : c.loop-i.i ≡ c.args.instructions = omega arith in
-    sym (rw e at c.loop-i.invariant.1)

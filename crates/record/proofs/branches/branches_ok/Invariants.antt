@@ -9,5 +9,5 @@ use Rattle.record.proofs.branches.branches_ok.Given as goal
 
 abbrev pub invariant-loop-k : goal.invariant-loop-k
 invariant-loop-k l =
-    (l.k ≤ l.blocks) × (l.e ≤ 255 * l.k) × (l.i ≤ 65535 * l.k)
+    (l.e ≤ 255 * l.k) × (l.i ≤ 65535 * l.k)
     × (l.e ≡ first_edge l.marks l.k) × (l.i ≡ first_instruction l.marks l.k) × (l.ok ≡ all_below (branch_ok l.targets l.kinds l.marks l.bodies) l.k)

@@ -7,4 +7,4 @@ use Rattle.record.specs.Branches.{is_true}
 use Rattle.record.proofs.branches.true_count.Given as goal
 
 abbrev pub invariant-loop-m : goal.invariant-loop-m
-invariant-loop-m l = (l.m ≤ l.n) × (l.count ≤ l.m) × (l.count ≡ sum_below (λ j. pick (is_true l.kinds (l.e + j)) 1 0) l.m)
+invariant-loop-m l = (l.count ≤ l.m) × (l.count ≡ sum_below (λ j. pick (is_true l.kinds (l.e + j)) 1 0) l.m)

@@ -2,7 +2,7 @@
 -- The invariant: so far each does, or `ok` is false.
 use mathlib.Core.Path.{◌≡◌}
 use mathlib.Core.Bool.{not, ◌||◌}
-use Prim.Native.Nat.{◌+◌, ◌≤◌}
+use Prim.Native.Nat.{◌+◌}
 use lib.Dec.{eqb}
 use Rattle.lists.specs.Choice.{all_below}
 use Rattle.record.specs.Blocks.{target_at}
@@ -11,4 +11,4 @@ use Rattle.record.proofs.branches.true_lead.Given as goal
 
 abbrev pub invariant-loop-m : goal.invariant-loop-m
 invariant-loop-m l =
-    (l.m ≤ l.n) × (l.ok ≡ all_below (λ j. not (is_true l.kinds (l.e + j)) || eqb (target_at l.targets (l.e + j)) l.va) l.m)
+    l.ok ≡ all_below (λ j. not (is_true l.kinds (l.e + j)) || eqb (target_at l.targets (l.e + j)) l.va) l.m

@@ -1,9 +1,9 @@
 -- `first_of` meets its contract.
 -- Where numbers are missing the invariant: the first from here on is the first of all.
 use mathlib.Core.Path.{◌≡◌}
-use Prim.Native.Nat.{◌≤◌, ◌-◌}
+use Prim.Native.Nat.{◌-◌}
 use Rattle.record.specs.Search.{find_from}
 use Rattle.record.proofs.search.first_of.Given as goal
 
 abbrev pub invariant-loop-k : goal.invariant-loop-k
-invariant-loop-k l = (l.k ≤ l.count) × (find_from l.numbers l.x l.k (l.count - l.k) ≡ find_from l.numbers l.x 0 l.count)
+invariant-loop-k l = find_from l.numbers l.x l.k (l.count - l.k) ≡ find_from l.numbers l.x 0 l.count

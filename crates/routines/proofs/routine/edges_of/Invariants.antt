@@ -1,7 +1,7 @@
 -- `routine::edges_of` meets its contract.
 -- The invariant: the edges counted so far and those of the blocks that are left are all.
 use mathlib.Core.Path.{◌≡◌}
-use Prim.Native.Nat.{◌+◌, ◌*◌, ◌-◌, ◌≤◌}
+use Prim.Native.Nat.{◌+◌, ◌*◌, ◌≤◌}
 use lib.ListN.{drop}
 use Rattle.routines.specs.Numbered.{routine_at}
 use Rattle.routines.specs.Written.{edge_count}

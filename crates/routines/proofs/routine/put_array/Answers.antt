@@ -12,15 +12,16 @@ use Rattle.lists.specs.PutLaws.{put_length, put_none, put_append}
 use Rattle.routines.specs.declared.ending.Ending.{Ending}
 use Rattle.routines.specs.declared.ending.Ending.TheVariants.{Ret}
 use Rattle.routines.specs.Numbered.{routine_at}
+use Rattle.routines.specs.declared.fields.Array.{Array}
 use Rattle.routines.specs.Written.{entry_of}
 use Rattle.routines.proofs.Sizes.{length_entry}
 use Rattle.routines.proofs.routine.put_array.Goals as goal
 use Rattle.routines.proofs.routine.put_array.Invariants.{left}
 
-none_left : (a : ℕ) (r : List Ending) (j : ℕ) → length r ≤ j → left a r j ≡ []
+none_left : (a : Array) (r : List Ending) (j : ℕ) → length r ≤ j → left a r j ≡ []
 none_left a r j h = rw (drop_of_length-le r h)
 
-module _ (a : ℕ) (r : List Ending) (j : ℕ) (e : Ending) (h : j < length r) (p : e ≡ get_or r j Ret) where
+module _ (a : Array) (r : List Ending) (j : ℕ) (e : Ending) (h : j < length r) (p : e ≡ get_or r j Ret) where
   one_more : left a r j ≡ entry_of a j e ++ left a r (j + 1)
   one_more = rw (drop-cons r j Ret h, add-one, p)
 

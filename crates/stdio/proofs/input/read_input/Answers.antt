@@ -24,6 +24,6 @@ loop-n-preserved g c =
     let n = c.loop-n.n in
     let room = length c.loop-n.list - n in
     let within = c.loop-n.invariant.1 in
-    let part = part_put n room c.in-Ok.more c.loop-n.list c.read.new.buf within c.in-Ok.ensures.bound.0 in
-    let whole = joined n (n + c.in-Ok.more) c.loop-n.list (put_mid n room c.loop-n.list c.read.new.buf) (omega arith) (take-put_mid_below _ _ _ _ _ (le_refl _) within) in
-    (search rules, search rules, subst (Consumes _ _) (ap (λ l. take n c.loop-n.list ++ l) (sym part) ∙ whole) (Consumes-trans _ _ _ _ _ c.loop-n.invariant.2 c.in-Ok.ensures.bytes.0))
+    let part = part_put n room c.in_ok-more.more c.loop-n.list c.read.new.buf within c.in_ok-more.ensures.bound.0 in
+    let whole = joined n (n + c.in_ok-more.more) c.loop-n.list (put_mid n room c.loop-n.list c.read.new.buf) (omega arith) (take-put_mid_below _ _ _ _ _ (le_refl _) within) in
+    (search rules, search rules, subst (Consumes _ _) (ap (λ l. take n c.loop-n.list ++ l) (sym part) ∙ whole) (Consumes-trans _ _ _ _ _ c.loop-n.invariant.2 c.in_ok-more.ensures.bytes.0))

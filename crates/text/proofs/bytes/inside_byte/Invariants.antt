@@ -8,6 +8,6 @@ use lib.ListN.{length, take, drop, get_or}
 use Rattle.text.specs.Literal.{escapes, closing}
 use Rattle.text.proofs.bytes.inside_byte.Given as goal
 
-abbrev pub invariant-loop-i : goal.invariant-loop-i
-invariant-loop-i l =
-    (l.i ≤ l.n) × (get_or (escapes (drop l.i (take 80 l.s)) ++ closing (ltb 80 (length l.s))) l.k 0 ≡ get_or (escapes (take 80 l.s) ++ closing (ltb 80 (length l.s))) l.j 0)
+abbrev pub invariant-loop-b : goal.invariant-loop-b
+invariant-loop-b l =
+    (l.b-index ≤ l.n) × (get_or (escapes (drop l.b-index (take 80 l.s)) ++ closing (ltb 80 (length l.s))) l.k 0 ≡ get_or (escapes (take 80 l.s) ++ closing (ltb 80 (length l.s))) l.j 0)

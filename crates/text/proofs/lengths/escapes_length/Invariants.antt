@@ -6,5 +6,5 @@ use Prim.Native.Nat.{◌≤◌, ◌+◌, ◌*◌}
 use mathlib.Core.Path.{◌≡◌}
 use Rattle.text.proofs.lengths.escapes_length.Given as goal
 
-abbrev pub invariant-loop-i : goal.invariant-loop-i
-invariant-loop-i l = (l.i ≤ l.n) × (l.sum ≤ 6 * l.i) × (l.sum + length (escapes (drop l.i (take 80 l.s))) ≡ length (escapes (take 80 l.s)))
+abbrev pub invariant-loop-b : goal.invariant-loop-b
+invariant-loop-b l = (l.b-index ≤ l.n) × (l.sum ≤ 6 * l.b-index) × (l.sum + length (escapes (drop l.b-index (take 80 l.s))) ≡ length (escapes (take 80 l.s)))

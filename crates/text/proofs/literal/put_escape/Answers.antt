@@ -1,16 +1,14 @@
 -- `literal::put_escape` meets its contract.
--- The code's test tells whether a byte stands for itself.
-use native.Mathlib.Omega.{arith}
-use mathlib.Core.Path.{refl}
+-- A byte that stands for itself is stored; all else the check finds.
 use Rattle.lists.specs.PutLaws.{put_cons, put_none}
-use Rattle.text.specs.Literal.{unseen}
-use Rattle.text.proofs.LiteralLaws.{escape_special, escape_self}
+use native.Mathlib.Omega.{arith}
+use mathlib.Core.Path.{◌≡◌}
+use mathlib.Core.List.{[], ◌∷◌}
+use Rattle.text.specs.Literal.{escape}
+use Rattle.text.proofs.LiteralLaws.{escape_own}
 use Rattle.text.proofs.literal.put_escape.Goals as goal
 
-pub returns-then-b : goal.returns-then-b
-unfolding unseen
-returns-then-b c = rw (escape_special _ c.if-b.true) c.put_spelling.ensures
-
-pub returns : goal.returns
-unfolding unseen
-returns c = rw (escape_self _ c.if-b.false) (record { count = (refl, omega arith); text = rw (put_cons, put_none) c.store.ensures })
+pub returns-in_default-clause-text : goal.returns-in_default-clause-text
+returns-in_default-clause-text c =
+    let e : escape c.args.b ≡ c.args.b ∷ [] = grind (arith, escape_own) in
+    rw (e, put_cons, put_none) c.store.ensures

@@ -7,10 +7,10 @@ use Rattle.lists.specs.Put.{put}
 use Rattle.text.specs.Literal.{escapes}
 use Rattle.text.proofs.literal.put_escapes.Given as goal
 
-abbrev pub invariant-loop-i : goal.invariant-loop-i
-invariant-loop-i l =
-    (l.i ≤ l.n)
-    × (l.at ≤ 6 * l.i)
+abbrev pub invariant-loop-b : goal.invariant-loop-b
+invariant-loop-b l =
+    (l.b-index ≤ l.n)
+    × (l.at ≤ 6 * l.b-index)
     × (length l.out ≡ length l.initial.out)
-    × (l.at + length (escapes (drop l.i (take 80 l.s))) ≡ length (escapes (take 80 l.s)))
-    × (put l.at (escapes (drop l.i (take 80 l.s))) l.out ≡ put 0 (escapes (take 80 l.s)) l.initial.out)
+    × (l.at + length (escapes (drop l.b-index (take 80 l.s))) ≡ length (escapes (take 80 l.s)))
+    × (put l.at (escapes (drop l.b-index (take 80 l.s))) l.out ≡ put 0 (escapes (take 80 l.s)) l.initial.out)
