@@ -10,7 +10,7 @@ use crate::columns::put_rearranged;
 use lists::question::Question;
 use record::asked::sized_header;
 use record::header::{Header, read_header};
-use record::layout::{bodies_at, size};
+use record::layout::bodies_at;
 
 // Questions 1 to 4, then 12.
 #[tactic(auto, unfolding(crate::specs::Called::store_no))]
@@ -38,12 +38,12 @@ fn store(rec: &[u8], out: &mut [u8], m: usize, n: usize) -> Result<usize, Questi
 pub fn to_columns(rec: &[u8], out: &mut [u8]) -> Result<usize, Question>
     ensures { Stores bodies body_bytes rec.now out.old out.new result }
 {
-    store(rec, out, size(read_header(rec).instructions), 92)
+    store(rec, out, usize::from(read_header(rec).instructions), 92)
 }
 
 // The way back: rows and columns exchanged.
 pub fn from_columns(rec: &[u8], out: &mut [u8]) -> Result<usize, Question>
     ensures { Stores body_bytes bodies rec.now out.old out.new result }
 {
-    store(rec, out, 92, size(read_header(rec).instructions))
+    store(rec, out, 92, usize::from(read_header(rec).instructions))
 }

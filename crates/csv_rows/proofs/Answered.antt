@@ -14,30 +14,27 @@ use Rattle.lists.specs.Every.{both_yes}
 use Rattle.lists.specs.Put.{put}
 use Rattle.lists.specs.PutLaws.{put_fits}
 use Rattle.tokens.proofs.ListingLaws.{ends_length, kinds_length}
-use Rattle.rows.specs.Lists.{Lists, lists_of, number_of, room_no, rooms_of, sizes_of, answer_for, over, Leaves, Stands}
+use Rattle.rows.specs.Lists.{Lists, values_of, room_no, rooms_of, sizes_of, over, Leaves, Stands}
 use Rattle.rows.specs.Rows.{Row, all_tokens, mark_of, row_lists}
 use Rattle.rows.specs.declared.answer.Sizes.{Sizes}
 use Rattle.rows.specs.declared.answer.Rooms.{Rooms}
-use Rattle.rows.specs.declared.answer.Answer.{Answer}
-use Rattle.rows.specs.declared.answer.Answer.TheVariants.{Listed, No}
+use Rattle.std.specs.Prelude.{Ok, Err}
+use Rattle.std.specs.declared.result.Result.{Result}
+use Rattle.lists.proofs.Answered.{value_is, question_is, question_some, number_is}
+use Rattle.lists.specs.Question.{number, number_of, Answers}
+use Rattle.lists.specs.declared.question.Question.{Question}
+use Rattle.csv_rows.proofs.Turns.{same_lists}
 use Rattle.lists.proofs.Tests.{split}
 use Rattle.rows.proofs.Back.{counts_length, leaves_rows}
 use Rattle.csv_rows.specs.Format.{rows_text, good_rows}
 use Rattle.csv_rows.specs.Called.{writable, Reads}
 use Rattle.csv_rows.specs.Reading.{is_rows, rows_read}
-use Rattle.csv_rows.specs.Filling.{sizes_read, Measured, small, count_no}
+use Rattle.csv_rows.specs.Filling.{sizes_read, small, read_no}
 use Rattle.csv_rows.proofs.Fit.{rows_fit, writable_good}
 use Rattle.csv_rows.proofs.Sound.{accepted, accepted_good}
 use Rattle.csv_rows.proofs.Complete.{written, read_back}
 
 -- ---- the number
-abbrev read_no : List ℕ → Rooms → ℕ
-read_no s rooms = count_no (is_rows s) (sizes_read s) rooms
-
-measured_no : (s : List ℕ) (ok : Bool) (z : Sizes) (rooms : Rooms) → Measured s ok z → count_no ok z rooms ≡ read_no s rooms
-unfolding count_no
-measured_no s ok z rooms m = split (is_rows s) (λ h. rw (m.rows, m.sizes h)) (λ h. rw (m.rows, h))
-
 writable_small : (rs : List Row) → writable rs ≡ small (good_rows rs) (sizes_of (row_lists rs))
 unfolding writable row_lists
 writable_small rs = rw ends_length
@@ -45,7 +42,7 @@ writable_small rs = rw ends_length
 -- the number of a file of rows, and no other number than 16 of bytes that are none
 module _ (s : List ℕ) (rooms : Rooms) where
   file_no : (rs : List Row) → writable rs ≡ true → rows_text rs ≡ s → (rows_read s ≡ rs) × (read_no s rooms ≡ room_no (sizes_of (row_lists rs)) rooms)
-  unfolding count_no
+  unfolding read_no
   file_no rs w q =
       let g = writable_good rs w in
       let e : rows_read s ≡ rs = ap rows_read (sym q) ∙ read_back rs g in
@@ -54,7 +51,7 @@ module _ (s : List ℕ) (rooms : Rooms) where
       (e, rw (e, o, z))
 
   no_file : (read_no s rooms ≡ 16 → ⊥) → (writable (rows_read s) ≡ true) × (rows_text (rows_read s) ≡ s)
-  unfolding count_no
+  unfolding read_no
   no_file h =
       split (small (is_rows s) (sizes_read s))
       (λ e.
@@ -86,7 +83,7 @@ asked n true later h = (refl, h)
 asked n false later h = absurd (omega arith)
 
 room : (s : List ℕ) (rooms : Rooms) → read_no s rooms ≡ 0 → Room s (sizes_read s) rooms
-unfolding room_no count_no
+unfolding room_no read_no
 room s rooms h =
     let z = sizes_read s in
     let x = leb z.text 4294967295 in
@@ -138,11 +135,11 @@ unfolding row_lists
 lines_as_addresses rs = counts_length 0 rs ∙ sym (length-map rs (λ (r : Row). r.address))
 
 filled_leaves : (s : List ℕ) (b a : Lists) → Room s (sizes_read s) (rooms_of b) → Stands (row_lists (rows_read s)) b a
-    → Leaves 0 (row_lists (rows_read s)) b a (Listed (sizes_read s))
+    → Leaves 0 (row_lists (rows_read s)) b a (Ok (sizes_read s))
 filled_leaves s b a w f =
     let rs = rows_read s in
     record {
-      answer = refl;
+      answer = (refl, refl);
       text = f.text ∙ over_put _ b.text w.text;
       ends = f.ends ∙ over_put _ b.ends w.ends;
       kinds = f.kinds ∙ over_put _ b.kinds (omega (arith, w.kinds, kinds_as_ends rs));
@@ -152,57 +149,49 @@ filled_leaves s b a w f =
       lines = f.lines ∙ over_put _ b.lines (omega (arith, w.lines, lines_as_addresses rs));
     }
 
-refused_leaves : (new b : Lists) (n : ℕ) → (n ≡ 0 → ⊥) → Leaves n new b b (No n)
-refused_leaves new b zero h = absurd (h refl)
-refused_leaves new b (suc n) h =
-    record { answer = refl; text = refl; ends = refl; kinds = refl; addresses = refl; marks = refl; places = refl; lines = refl }
+refused_leaves : (new b : Lists) (n : ℕ) (q : Question) → n ≡ number q → 1 ≤ n → Leaves n new b b (Err q)
+refused_leaves new b zero q e h = absurd (omega (arith, h))
+refused_leaves new b (suc n) q e h =
+    record { answer = e; text = refl; ends = refl; kinds = refl; addresses = refl; marks = refl; places = refl; lines = refl }
 
 -- ---- what is promised
-answered : (z : Sizes) (n : ℕ) → number_of (answer_for z n) ≡ n
-answered z zero = refl
-answered z (suc n) = refl
+no_values : (n : ℕ) (z : Sizes) (r : Result Sizes Question) → Answers (suc n) z r → values_of r ≡ record { text = 0; tokens = 0; lines = 0 }
+no_values n z (Ok y) v = absurd (omega (arith, v.0))
+no_values n z (Err q) v = refl
 
-same_lists : (a b : Lists) → a.text ≡ b.text → a.ends ≡ b.ends → a.kinds ≡ b.kinds → a.addresses ≡ b.addresses → a.marks ≡ b.marks
-    → a.places ≡ b.places → a.lines ≡ b.lines → a ≡ b
-same_lists a b x e k d m p l =
-    let z : lists_of a.text a.ends a.kinds a.addresses a.marks a.places a.lines
-    ≡ lists_of b.text b.ends b.kinds b.addresses b.marks b.places b.lines = rw (x, e, k, d, m, p, l) in
-    z
-
-module _ (s : List ℕ) (b a : Lists) (r : Answer) (v : Leaves (read_no s (rooms_of b)) (row_lists (rows_read s)) b a r) where
+module _ (s : List ℕ) (b a : Lists) (r : Result Sizes Question) (v : Leaves (read_no s (rooms_of b)) (row_lists (rows_read s)) b a r) where
   abbrev no : ℕ
   no = read_no s (rooms_of b)
 
-  number : number_of r ≡ no
-  number = ap number_of v.answer ∙ answered (sizes_read s) no
+  is_no : number_of r ≡ no
+  is_no = number_is no (sizes_read s) r v.answer
 
   reads : Reads s b a r
   reads =
       record {
         rows = λ rs w q. let f = file_no s (rooms_of b) rs w q in rw (f.1, f.0) at v;
-        others = λ h. (rows_read s, no_file s (rooms_of b) (λ e. h (number ∙ e)));
-        refused = λ h. let u : Leaves 16 (row_lists (rows_read s)) b a r = rw (sym number ∙ h) at v in
-            (rw u.answer, same_lists a b u.text u.ends u.kinds u.addresses u.marks u.places u.lines);
+        others = λ h. (rows_read s, no_file s (rooms_of b) (λ e. h (is_no ∙ e)));
+        refused = λ h. let u : Leaves 16 (row_lists (rows_read s)) b a r = rw (sym is_no ∙ h) at v in
+            (no_values 15 (sizes_read s) r u.answer, same_lists a b u.text u.ends u.kinds u.addresses u.marks u.places u.lines);
         again = λ h.
-            let u : Leaves 0 (row_lists (rows_read s)) b a r = rw (sym number ∙ h) at v in
-            let o = (room s (rooms_of b) (sym number ∙ h)).rows in
+            let u : Leaves 0 (row_lists (rows_read s)) b a r = rw (sym is_no ∙ h) at v in
+            let o = (room s (rooms_of b) (sym is_no ∙ h)).rows in
             let k = leaves_rows (rows_read s) b a r u (rows_fit (rows_read s) (accepted_good s o)) in
             (k.0, ap rows_text k.1 ∙ accepted s o);
       }
 
--- ---- as the code has it: v is the number made of what was counted
-module _ {s : List ℕ} {ok : Bool} {z : Sizes} {v : ℕ} (rooms : Rooms) (m : Measured s ok z) (p : v ≡ count_no ok z rooms) where
-  number_read : v ≡ read_no s rooms
-  number_read = p ∙ measured_no s ok z rooms m
+-- ---- as the code has it: g is the answer to the questions
+module _ (s : List ℕ) (rooms : Rooms) (g : Result Sizes Question) (v : Answers (read_no s rooms) (sizes_read s) g) where
+  pub room_as : {z : Sizes} → g ≡ Ok z → (is_rows s ≡ true) × ((sizes_read s).text ≤ 4294967295) × ((sizes_read s).tokens ≤ 4294967295)
+  room_as {z} h = let w = room s rooms (value_is _ _ g z v h).0 in (w.rows, w.text_small, w.tokens_small)
 
-  pub room_as : v ≡ 0 → (is_rows s ≡ true) × ((sizes_read s).text ≤ 4294967295) × ((sizes_read s).tokens ≤ 4294967295)
-  room_as h = let w = room s rooms (sym number_read ∙ h) in (w.rows, w.text_small, w.tokens_small)
+  pub refused_as : {q : Question} {b : Lists} → rooms ≡ rooms_of b → g ≡ Err q → Reads s b b (Err q)
+  refused_as {q} {b} e h =
+      reads s b b (Err q)
+      (refused_leaves (row_lists (rows_read s)) b (read_no s (rooms_of b)) q (rw (← e) (question_is _ _ g q v h)) (rw (← e) (question_some _ _ g q v h)))
 
-  pub refused_as : {b : Lists} → rooms ≡ rooms_of b → (v ≡ 0 → ⊥) → Reads s b b (No v)
-  refused_as {b} e h = reads s b b (No v) (rw (← e, ← number_read) (refused_leaves (row_lists (rows_read s)) b v h))
-
-  pub filled_as : {b a : Lists} → rooms ≡ rooms_of b → v ≡ 0 → Stands (row_lists (rows_read s)) b a → Reads s b a (Listed z)
-  filled_as {b} {a} e h f =
-      let q : read_no s (rooms_of b) ≡ 0 = rw e at (sym number_read ∙ h) in
-      let w = room s (rooms_of b) q in
-      rw (m.sizes w.rows) (reads s b a (Listed (sizes_read s)) (rw q (filled_leaves s b a w f)))
+  pub filled_as : {z : Sizes} {b a : Lists} → rooms ≡ rooms_of b → g ≡ Ok z → Stands (row_lists (rows_read s)) b a → Reads s b a (Ok z)
+  filled_as {z} {b} {a} e h f =
+      let k = value_is _ _ g z v h in
+      let q : read_no s (rooms_of b) ≡ 0 = rw e at k.0 in
+      rw k.1 (reads s b a (Ok (sizes_read s)) (rw q (filled_leaves s b a (room s (rooms_of b) q) f)))

@@ -12,6 +12,15 @@ use Rattle.tokens.specs.Lines.{end_at}
 use Rattle.rows.specs.Lists.{Lists, room_no, rooms_of}
 use Rattle.rows.specs.Rows.{token_held, row_held, sizes_within, holds_rows}
 use Rattle.rows.specs.declared.answer.Sizes.{Sizes}
+use Rattle.rows.specs.declared.answer.Rooms.{Rooms}
+use Rattle.std.specs.Prelude.{Ok, Err}
+use Rattle.std.specs.Result.{is_err}
+use Rattle.std.specs.declared.result.Result.{Result}
+use native.Mathlib.Omega.{arith}
+use Rattle.lists.proofs.Answered.{number_some}
+use Rattle.lists.proofs.Tests.{never}
+use Rattle.lists.specs.Question.{Answers}
+use Rattle.lists.specs.declared.question.Question.{Question}
 use Rattle.rows.proofs.Held.{Within, within}
 
 all_asked : (a b c d e f g : Bool) → eqb (ask 12 a (ask 13 (b && c) (ask 14 (d && e && f && g) 0))) 0 ≡ (a && b && c && d && e && f && g)
@@ -24,6 +33,15 @@ all_asked true true true true true false g = refl
 all_asked true true true true true true false = refl
 all_asked true true true true true true true = refl
 
+-- the answer to questions whose number is n
+refuses : {A : Type 0} (n : ℕ) (x : A) (q : Result A Question) → Answers n x q → is_err q ≡ true → eqb n 0 ≡ false
+refuses n x (Ok y) v h = never h
+refuses n x (Err q) v h = ne_eqb n 0 (λ e. let k = number_some q in omega (arith, v, k))
+
+allows : {A : Type 0} (n : ℕ) (x : A) (q : Result A Question) → Answers n x q → is_err q ≡ false → eqb n 0 ≡ true
+allows n x (Ok y) v h = eq-eqb n 0 v.0
+allows n x (Err q) v h = never (sym h)
+
 module _ (l : Lists) (z : Sizes) where
   room_within : eqb (room_no z (rooms_of l)) 0 ≡ sizes_within l z.text z.tokens z.lines
   unfolding room_no sizes_within
@@ -32,15 +50,15 @@ module _ (l : Lists) (z : Sizes) where
       (leb z.lines (length l.addresses)) (leb z.lines (length l.marks)) (leb z.lines (length l.places)) (leb z.lines (length l.lines))
 
   -- the sizes are not within the lists
-  pub hold_rooms : {no : ℕ} → no ≡ room_no z (rooms_of l) → (no ≡ 0 → ⊥) → false ≡ holds_rows l z.text z.tokens z.lines
+  pub hold_rooms : {A : Type 0} (x : A) {r : Rooms} (q : Result A Question) → r ≡ rooms_of l → Answers (room_no z r) x q → is_err q ≡ true → false ≡ holds_rows l z.text z.tokens z.lines
   unfolding holds_rows
-  hold_rooms {no} p h =
-      let w : sizes_within l z.text z.tokens z.lines ≡ false = sym room_within ∙ ap (λ (k : ℕ). eqb k 0) (sym p) ∙ ne_eqb no 0 h in
+  hold_rooms x {r} q p v h =
+      let w : sizes_within l z.text z.tokens z.lines ≡ false = sym room_within ∙ ap (λ (r : Rooms). eqb (room_no z r) 0) (sym p) ∙ refuses _ x q v h in
       rw w
 
-  module _ {no : ℕ} (p : no ≡ room_no z (rooms_of l)) (h : no ≡ 0) where
+  module _ {A : Type 0} (x : A) {r : Rooms} (q : Result A Question) (p : r ≡ rooms_of l) (v : Answers (room_no z r) x q) (h : is_err q ≡ false) where
     is_within : sizes_within l z.text z.tokens z.lines ≡ true
-    is_within = sym room_within ∙ ap (λ (k : ℕ). eqb k 0) (sym p) ∙ eq-eqb no 0 h
+    is_within = sym room_within ∙ ap (λ (r : Rooms). eqb (room_no z r) 0) (sym p) ∙ allows _ x q v h
 
     pub rooms_within : Within l z.text z.tokens z.lines
     rooms_within = within l z.text z.tokens z.lines is_within

@@ -10,7 +10,7 @@ use Rattle.lists.specs.Entries.{tab}
 use Rattle.text.specs.Decimal.{decimal_text}
 use Rattle.tokens.specs.Token.{token}
 use Rattle.tokens.specs.Lines.{end_at, between, token_at, line_at}
-use Rattle.rows.specs.Lists.{Lists, lists_of}
+use Rattle.rows.specs.Lists.{Lists}
 use Rattle.rows.specs.Rows.{is_addressed, indent_of, row_at}
 use Rattle.csv_rows.specs.Format.{token_text, tokens_text, address_text, row_text, rows_text}
 use Rattle.csv_rows.specs.Writing.{Wrote, head_text, tokens_from, line_text, rows_from}
@@ -47,43 +47,40 @@ unfolding line_text
 line_wrote text ends kinds m n {p = p} w a b = wrote_then w (wrote_to (omega arith) (wrote_byte a (wrote_one b)))
 
 -- ---- rows
-module _ (text ends kinds addresses marks places lines : List ℕ) (m i : ℕ) where
-  abbrev lists : Lists
-  lists = lists_of text ends kinds addresses marks places lines
-
-  row_parts : row_text (row_at lists i)
-      ≡ head_text (get_or marks i 0) (get_or addresses i 0) (get_or places i 0) ++ line_text text ends kinds (end_at lines (suc i)) (end_at lines i)
+module _ (l : Lists) (m i : ℕ) where
+  row_parts : row_text (row_at l i)
+      ≡ head_text (get_or l.marks i 0) (get_or l.addresses i 0) (get_or l.places i 0) ++ line_text l.text l.ends l.kinds (end_at l.lines (suc i)) (end_at l.lines i)
   unfolding row_text row_at line_at head_text line_text tokens_from
   row_parts =
-      let a = address_text (is_addressed (get_or marks i 0)) (get_or addresses i 0) in
-      let d = decimal_text (indent_of (get_or marks i 0)) in
-      let p = decimal_text (get_or places i 0) in
-      let t = line_text text ends kinds (end_at lines (suc i)) (end_at lines i) in
+      let a = address_text (is_addressed (get_or l.marks i 0)) (get_or l.addresses i 0) in
+      let d = decimal_text (indent_of (get_or l.marks i 0)) in
+      let p = decimal_text (get_or l.places i 0) in
+      let t = line_text l.text l.ends l.kinds (end_at l.lines (suc i)) (end_at l.lines i) in
       sym (append_assoc a (44 ∷ (d ++ (44 ∷ p))) t ∙ ap (λ (u : List ℕ). a ++ (44 ∷ u)) (append_assoc d (44 ∷ p) t))
 
-  pub rows_more : {mark address place n e : ℕ} → i < m → mark ≡ get_or marks i 0 → address ≡ get_or addresses i 0 → place ≡ get_or places i 0
-      → n ≡ end_at lines i → e ≡ end_at lines (i + 1)
-      → rows_from lists m i ≡ (head_text mark address place ++ line_text text ends kinds e n) ++ rows_from lists m (i + 1)
+  pub rows_more : {mark address place n e : ℕ} → i < m → mark ≡ get_or l.marks i 0 → address ≡ get_or l.addresses i 0 → place ≡ get_or l.places i 0
+      → n ≡ end_at l.lines i → e ≡ end_at l.lines (i + 1)
+      → rows_from l m i ≡ (head_text mark address place ++ line_text l.text l.ends l.kinds e n) ++ rows_from l m (i + 1)
   unfolding rows_from rows_text
-  rows_more h a b c p q = let d : m - i ≡ suc (m - suc i) = omega arith in rw (a, b, c, p, q, d, add-one) (ap (λ (t : List ℕ). t ++ rows_text (tab (row_at lists) (suc i) (m - suc i))) row_parts)
+  rows_more h a b c p q = let d : m - i ≡ suc (m - suc i) = omega arith in rw (a, b, c, p, q, d, add-one) (ap (λ (t : List ℕ). t ++ rows_text (tab (row_at l) (suc i) (m - suc i))) row_parts)
 
   -- there is room for the head, and behind it for the line
-  module _ {mark address place n e at₀ at : ℕ} {o₀ o : List ℕ} (z : Going (rows_from lists m) 0 at₀ o₀ i at o) (h : i < m) (a : mark ≡ get_or marks i 0)
-      (b : address ≡ get_or addresses i 0) (c : place ≡ get_or places i 0) (p : n ≡ end_at lines i) (q : e ≡ end_at lines (i + 1)) (room : at₀ + length (rows_from lists m 0) ≤ length o₀) where
-    row_room : at + length (head_text mark address place) + length (line_text text ends kinds e n) ≤ length o
+  module _ {mark address place n e at₀ at : ℕ} {o₀ o : List ℕ} (z : Going (rows_from l m) 0 at₀ o₀ i at o) (h : i < m) (a : mark ≡ get_or l.marks i 0)
+      (b : address ≡ get_or l.addresses i 0) (c : place ≡ get_or l.places i 0) (p : n ≡ end_at l.lines i) (q : e ≡ end_at l.lines (i + 1)) (room : at₀ + length (rows_from l m 0) ≤ length o₀) where
+    row_room : at + length (head_text mark address place) + length (line_text l.text l.ends l.kinds e n) ≤ length o
     row_room =
-        omega (arith, go_room z (head_text mark address place ++ line_text text ends kinds e n) (rows_more h a b c p q) room, length-append (head_text mark address place) (line_text text ends kinds e n))
+        omega (arith, go_room z (head_text mark address place ++ line_text l.text l.ends l.kinds e n) (rows_more h a b c p q) room, length-append (head_text mark address place) (line_text l.text l.ends l.kinds e n))
 
     pub head_room : at + length (head_text mark address place) ≤ length o
     head_room = omega (arith, row_room)
 
-    pub line_room : {r : ℕ} {o₁ : List ℕ} → Wrote at (head_text mark address place) o o₁ r → r + length (line_text text ends kinds e n) ≤ length o₁
+    pub line_room : {r : ℕ} {o₁ : List ℕ} → Wrote at (head_text mark address place) o o₁ r → r + length (line_text l.text l.ends l.kinds e n) ≤ length o₁
     line_room w = omega (arith, row_room, w.end, wrote_length w)
 
-    pub rows_turn : {r r' : ℕ} {o₁ o₂ : List ℕ} → Wrote at (head_text mark address place) o o₁ r → Wrote r (line_text text ends kinds e n) o₁ o₂ r'
-        → Going (rows_from lists m) 0 at₀ o₀ (i + 1) r' o₂
+    pub rows_turn : {r r' : ℕ} {o₁ o₂ : List ℕ} → Wrote at (head_text mark address place) o o₁ r → Wrote r (line_text l.text l.ends l.kinds e n) o₁ o₂ r'
+        → Going (rows_from l m) 0 at₀ o₀ (i + 1) r' o₂
     rows_turn w v = go_turn z (rows_more h a b c p q) (wrote_then w v)
 
-  pub rows_none : m ≤ i → rows_from lists m i ≡ []
+  pub rows_none : m ≤ i → rows_from l m i ≡ []
   unfolding rows_from rows_text
   rows_none h = let d : m - i ≡ 0 = omega arith in rw d

@@ -17,12 +17,14 @@ use Rattle.tokens.specs.Listing.{text_of, ends_from, kinds_of}
 use Rattle.rows.specs.Lists.{Lists, lists_of, Stands}
 use Rattle.rows.specs.Rows.{Row, all_tokens, token_counts, row_lists}
 use Rattle.rows.specs.declared.answer.Sizes.{Sizes}
+use Rattle.std.specs.Prelude.{Some, None}
 use Rattle.rows.proofs.Back.{counts_length}
 use Rattle.csv_rows.specs.Reading.{kind_of, next, stage, is_start, effect, rest, is_rows, rows_read}
-use Rattle.csv_rows.specs.Filling.{number, address_in, mark_in, place_in, one, sizes_read, Measured}
+use Rattle.csv_rows.specs.Filling.{number, address_in, mark_in, place_in, one, sizes_read, counted}
 use Rattle.csv_rows.specs.declared.machine.At.{At}
 use Rattle.csv_rows.specs.declared.machine.At.TheVariants.{Start}
 use Rattle.csv_rows.specs.declared.machine.Effect.{Effect}
+use Rattle.csv_rows.specs.declared.machine.Effect.TheVariants.{Silent, Byte, Kind, TokenEnd, Head, RowEnd}
 use Rattle.csv_rows.proofs.Sound.{only_start}
 use Rattle.csv_rows.proofs.Steps.{in_token, begun, text_left, ends_left, kinds_left, addresses_left, marks_left, places_left, lines_left, steps, ok_step}
 
@@ -173,12 +175,20 @@ module _ {s : List ℕ} {i : ℕ} {t : At} {x n l : ℕ} (z : Scan s i t x n l) 
         sized = λ r. rw add-one (sized_turn t c (drop (suc i) s) x n l (o ∙ r) (sizes_read s) (rw d at (z.sized r)));
       }
 
-  pub scan_end : length s ≤ i → Measured s (is_start t) (record { text = x; tokens = n; lines = l })
-  unfolding rest
-  scan_end h =
-      let d : drop i s ≡ [] = drop_of_length-le s h in
-      let o : is_start t ≡ is_rows s = rw d at z.ok in
-      record { rows = o; sizes = λ r. sized_end t x n l (sizes_read s) (o ∙ r) (rw d at (z.sized r)) }
+  module _ (h : length s ≤ i) where
+    ends_as : is_start t ≡ is_rows s
+    unfolding rest
+    ends_as = let d : drop i s ≡ [] = drop_of_length-le s h in rw d at z.ok
+
+    pub scan_end : is_start t ≡ true → Some (record { text = x; tokens = n; lines = l }) ≡ counted s
+    unfolding rest
+    scan_end e =
+        let d : drop i s ≡ [] = drop_of_length-le s h in
+        let o : is_rows s ≡ true = sym ends_as ∙ e in
+        rw (o, ← sized_end t x n l (sizes_read s) e (rw d at (z.sized o)))
+
+    pub scan_none : is_start t ≡ false → None ≡ counted s
+    scan_none e = rw (sym ends_as ∙ e)
 
 -- ---- the pass that stores
 -- to store what is left in the lists b is to store all in the lists b₀
@@ -227,32 +237,40 @@ same_lengths f =
       lines = ap length f.lines ∙ put_length _ _ _;
     }
 
--- ---- a turn as the code makes it: each call's answer as a variable, with what the call ensures of it
-module _ {s : List ℕ} {i : ℕ} {t t' : At} {x n l x' n' l' k : ℕ} {e : Effect}
-    (z : Scan s i t x n l) (h : i < length s) (pe : e ≡ effect t (get_or s i 0)) (pk : k ≡ number e) where
-  pub count_turn : x' ≡ x + one (eqb k 1) → n' ≡ n + one (eqb k 3) → l' ≡ l + one (eqb k 5) → t' ≡ next t (get_or s i 0) → Scan s (i + 1) t' x' n' l'
-  count_turn px pn pl pt = rw (pt, pl, pn, px, pk, pe) (scan_turn z h)
+pub same_lists : (a b : Lists) → a.text ≡ b.text → a.ends ≡ b.ends → a.kinds ≡ b.kinds → a.addresses ≡ b.addresses → a.marks ≡ b.marks
+    → a.places ≡ b.places → a.lines ≡ b.lines → a ≡ b
+same_lists a b x e k d m p l =
+    let z : lists_of a.text a.ends a.kinds a.addresses a.marks a.places a.lines
+    ≡ lists_of b.text b.ends b.kinds b.addresses b.marks b.places b.lines = rw (x, e, k, d, m, p, l) in
+    z
 
-  pub store_turn : {b₀ b b' : Lists} {d : ℕ} → is_rows s ≡ true → Storing s i t x n l b₀ b
-      → b'.text ≡ pick (eqb k 1) (set b.text x (get_or s i 0)) b.text → b'.ends ≡ pick (eqb k 3) (set b.ends n x) b.ends
-      → d ≡ kind_of (get_or s i 0) → b'.kinds ≡ pick (eqb k 2) (set b.kinds n d) b.kinds
-      → b'.addresses ≡ pick (eqb k 4) (set b.addresses l (address_in e)) b.addresses
-      → b'.marks ≡ pick (eqb k 4) (set b.marks l (mark_in e)) b.marks
-      → b'.places ≡ pick (eqb k 4) (set b.places l (place_in e)) b.places
-      → b'.lines ≡ pick (eqb k 5) (set b.lines l n) b.lines
-      → x' ≡ x + one (eqb k 1) → n' ≡ n + one (eqb k 3) → l' ≡ l + one (eqb k 5) → t' ≡ next t (get_or s i 0) → Storing s (i + 1) t' x' n' l' b₀ b'
-  store_turn r y p1 p2 pd p3 p4 p5 p6 p7 px pn pl pt =
-      let w = storing_turn r z y h in
-      rw (pt, pl, pn, px)
-      (record {
-        all =
-            record {
-              text = rw (p1, pk, pe) w.text;
-              ends = rw (p2, pk, pe) w.ends;
-              kinds = rw (p3, pd, pk, pe) w.kinds;
-              addresses = rw (p4, pk, pe) w.addresses;
-              marks = rw (p5, pk, pe) w.marks;
-              places = rw (p6, pk, pe) w.places;
-              lines = rw (p7, pk, pe) w.lines;
-            };
-      })
+-- ---- a turn as the code makes it, by the effect: each call's answer as a variable, with what the call ensures of it
+module _ {s : List ℕ} {i : ℕ} {t t' : At} {x n l x' n' l' : ℕ} (z : Scan s i t x n l) (h : i < length s) (e : Effect) (pe : e ≡ effect t (get_or s i 0))
+    (px : x' ≡ x + one (eqb (number e) 1)) (pn : n' ≡ n + one (eqb (number e) 3)) (pl : l' ≡ l + one (eqb (number e) 5)) (pt : t' ≡ next t (get_or s i 0)) where
+  pub count_turn : Scan s (i + 1) t' x' n' l'
+  count_turn = rw (pt, pl, pn, px, pe) (scan_turn z h)
+
+  store_turn : {b₀ b b' : Lists} → is_rows s ≡ true → Storing s i t x n l b₀ b → b' ≡ stored e (get_or s i 0) x n l b → Storing s (i + 1) t' x' n' l' b₀ b'
+  store_turn r y p = rw (pt, pl, pn, px, p, pe) (record { all = storing_turn r z y h })
+
+  -- with each list by itself
+  pub lists_turn : {b₀ b b' : Lists} → is_rows s ≡ true → Storing s i t x n l b₀ b → let w = stored e (get_or s i 0) x n l b in
+      b'.text ≡ w.text → b'.ends ≡ w.ends → b'.kinds ≡ w.kinds → b'.addresses ≡ w.addresses → b'.marks ≡ w.marks → b'.places ≡ w.places → b'.lines ≡ w.lines
+      → Scan s (i + 1) t' x' n' l' × Storing s (i + 1) t' x' n' l' b₀ b'
+  lists_turn {b = b} {b' = b'} r y d f k a m p q = (count_turn, store_turn r y (same_lists b' (stored e (get_or s i 0) x n l b) d f k a m p q))
+
+-- an effect that counts nothing
+uncounted : (e : Effect) → (e ≡ Byte → ⊥) → (e ≡ TokenEnd → ⊥) → (e ≡ RowEnd → ⊥)
+    → (one (eqb (number e) 1) ≡ 0) × (one (eqb (number e) 3) ≡ 0) × (one (eqb (number e) 5) ≡ 0)
+uncounted Silent a b c = (refl, refl, refl)
+uncounted Byte a b c = absurd (a refl)
+uncounted Kind a b c = (refl, refl, refl)
+uncounted TokenEnd a b c = absurd (b refl)
+uncounted (Head h x d p) a b c = (refl, refl, refl)
+uncounted RowEnd a b c = absurd (c refl)
+
+pub other_turn : {s : List ℕ} {i : ℕ} {t t' : At} {x n l x' n' l' : ℕ} → Scan s i t x n l → i < length s → (e : Effect) → e ≡ effect t (get_or s i 0)
+    → (e ≡ Byte → ⊥) → (e ≡ TokenEnd → ⊥) → (e ≡ RowEnd → ⊥) → x' ≡ x → n' ≡ n → l' ≡ l → t' ≡ next t (get_or s i 0) → Scan s (i + 1) t' x' n' l'
+other_turn z h e pe a b c px pn pl pt =
+    let u = uncounted e a b c in
+    count_turn z h e pe (omega (arith, px, u.0)) (omega (arith, pn, u.1)) (omega (arith, pl, u.2)) pt

@@ -1,5 +1,5 @@
 -- What the reader's first pass counts, and what an effect stores. It describes the code, and is not what a caller must believe: that is csv_rows/specs/Called.
-use Rattle.std.specs.Prelude.{Bool, true, ◌&&◌, List, ◌≡◌, ℕ, ◌+◌, leb}
+use Rattle.std.specs.Prelude.{Bool, ◌&&◌, List, ℕ, ◌+◌, leb, Option, Some, None}
 use Rattle.lists.specs.Choice.{pick, ask}
 use Rattle.rows.specs.Lists.{sizes_of, room_no}
 use Rattle.rows.specs.Rows.{row_lists}
@@ -49,14 +49,13 @@ one t = pick t 1 0
 abbrev pub sizes_read : List ℕ → Sizes
 sizes_read s = sizes_of (row_lists (rows_read s))
 
-pub record Measured (s : List ℕ) (ok : Bool) (z : Sizes) : Type 0 where
-  pub rows : ok ≡ is_rows s
-  pub sizes : is_rows s ≡ true → z ≡ sizes_read s
+abbrev pub counted : List ℕ → Option Sizes
+counted s = pick (is_rows s) (Some (sizes_read s)) None
 
 -- rows whose text and tokens are counted in 32 bits
 abbrev pub small : Bool → Sizes → Bool
 small ok z = ok && leb z.text 4294967295 && leb z.tokens 4294967295
 
--- the number that what was counted gives
-unfoldable pub count_no : Bool → Sizes → Rooms → ℕ
-count_no ok z rooms = ask 16 (small ok z) (room_no z rooms)
+-- the number that the first pass gives
+unfoldable pub read_no : List ℕ → Rooms → ℕ
+read_no s rooms = ask 16 (small (is_rows s) (sizes_read s)) (room_no (sizes_read s) rooms)

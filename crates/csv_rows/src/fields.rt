@@ -30,8 +30,8 @@ fn put_doubled(out: &mut [u8], at: usize, s: &[u8]) -> usize
     ensures { Wrote at (doubled s.now) out.old out.new result }
 {
     let mut p = at;
-    for i in 0..s.len() {
-        p = put_char(out, p, s[i]);
+    for &b in s {
+        p = put_char(out, p, b);
     }
     p
 }

@@ -7,5 +7,4 @@ pub mod machine;
 pub mod numbers;
 pub mod reading;
 pub mod sizing;
-pub mod storing;
 pub mod writing;

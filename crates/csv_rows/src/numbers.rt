@@ -11,12 +11,10 @@ pub fn put_sixteen(out: &mut [u8], at: usize, v: u64) -> usize
     requires { at + 16 ≤ length out.old }
     ensures { Wrote at (hex_digits true 16 v) out.old out.new result }
 {
-    let mut i: usize = 16;
     let mut w = v;
-    while i > 0 {
-        i -= 1;
+    for i in (0..16).rev() {
         store(out, at + i, digit_of(true, w % 16));
-        w = w / 16;
+        w /= 16;
     }
     at + 16
 }

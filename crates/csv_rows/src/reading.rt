@@ -1,46 +1,42 @@
 // Reading rows: one pass that checks and counts, and one that stores.
 ghost use Rattle.std.specs.Prelude.{◌≡◌, true, ◌≤◌};
+ghost use Rattle.lists.specs.Question.{Answers};
 ghost use Rattle.rows.specs.Lists.{lists_of, Stands};
 ghost use Rattle.rows.specs.Rows.{row_lists};
 ghost use Rattle.csv_rows.specs.Reading.{is_rows, rows_read};
 ghost use Rattle.csv_rows.specs.Called.{Reads};
-ghost use Rattle.csv_rows.specs.Filling.{sizes_read, Measured, count_no};
+ghost use Rattle.csv_rows.specs.Filling.{sizes_read, counted, read_no};
 
-use crate::machine::{At, effect_of, is_start, kind_of, next};
-use crate::storing::{number_of, plus, put_head, put_if, put_if_u32};
-use rows::answer::{Answer, Rooms, Sizes, room_no};
+use crate::machine::{At, Effect, effect_of, is_start, kind_of, mark_of, next};
+use lists::question::Question;
+use lists::stores::store;
+use rows::answer::{Rooms, Sizes, ask_room};
 
-// Whether bytes are rows, and how much they have if they are.
-#[derive(Clone, Copy)]
-struct Count {
-    ok: bool,
-    sizes: Sizes,
-}
-
-// Counts text bytes, token ends and row ends.
-fn measure(s: &[u8]) -> Count
-    ensures { Measured s.now result.ok result.sizes }
+// Counts text bytes, token ends and row ends, if the bytes are rows.
+fn measure(s: &[u8]) -> Option<Sizes>
+    ensures { result ≡ counted s.now }
 {
     let mut t = At::Start;
     let mut x: usize = 0;
     let mut n: usize = 0;
     let mut l: usize = 0;
-    for i in 0..s.len() {
-        let c = s[i];
-        let k = number_of(effect_of(t, c));
-        x = plus(x, k == 1);
-        n = plus(n, k == 3);
-        l = plus(l, k == 5);
+    for &c in s {
+        match effect_of(t, c) {
+            Effect::Byte => x += 1,
+            Effect::TokenEnd => n += 1,
+            Effect::RowEnd => l += 1,
+            _ => {}
+        }
         t = next(t, c);
     }
-    Count {
-        ok: is_start(t),
-        sizes: Sizes {
+    if is_start(t) {
+        return Some(Sizes {
             text: x,
             tokens: n,
             lines: l,
-        },
+        });
     }
+    None
 }
 
 // The lists of rows that are accepted.
@@ -63,34 +59,47 @@ fn fill(
     let mut x: usize = 0;
     let mut n: usize = 0;
     let mut l: usize = 0;
-    for i in 0..s.len() {
-        let c = s[i];
-        let e = effect_of(t, c);
-        let k = number_of(e);
-        put_if(text, k == 1, x, c);
-        put_if_u32(ends, k == 3, n, x as u32);
-        put_if(kinds, k == 2, n, kind_of(c));
-        put_head(addresses, marks, places, k == 4, l, e);
-        put_if_u32(lines, k == 5, l, n as u32);
-        x = plus(x, k == 1);
-        n = plus(n, k == 3);
-        l = plus(l, k == 5);
+    for &c in s {
+        match effect_of(t, c) {
+            Effect::Silent => {}
+            Effect::Byte => {
+                store(text, x, c);
+                x += 1;
+            }
+            Effect::Kind => store(kinds, n, kind_of(c)),
+            Effect::TokenEnd => {
+                store(ends, n, x as u32);
+                n += 1;
+            }
+            Effect::Head(h, a, d, p) => {
+                store(addresses, l, a);
+                store(marks, l, mark_of(h, d));
+                store(places, l, p);
+            }
+            Effect::RowEnd => {
+                store(lines, l, n as u32);
+                l += 1;
+            }
+        }
         t = next(t, c);
     }
 }
 
-// The number of the question that gets a no, of what was counted and the room lent, or 0.
-fn count_no(count: Count, rooms: Rooms) -> u8
-    ensures { result ≡ count_no count.ok count.sizes rooms }
+// The questions of a file of rows and the room lent: how much the rows have, where none gets a no.
+#[tactic(auto, unfolding(crate::specs::Filling::read_no))]
+fn sizes(s: &[u8], rooms: Rooms) -> Result<Sizes, Question>
+    ensures { Answers (read_no s.now rooms) (sizes_read s.now) result }
 {
-    let sizes = count.sizes;
-    if count.ok & (sizes.text <= 4294967295) & (sizes.tokens <= 4294967295) {
-        return room_no(sizes, rooms);
+    let sizes = measure(s).ok_or(Question::Rows)?;
+    if (4294967295 < sizes.text) | (4294967295 < sizes.tokens) {
+        return Err(Question::Rows);
     }
-    16
+    ask_room(sizes, rooms)?;
+    Ok(sizes)
 }
 
 // The lists of a file of rows.
+// Seven lists are seven parameters where they are filled: of a struct of seven `&mut` lists the proof did not close.
 pub fn read_rows(
     s: &[u8],
     text: &mut [u8],
@@ -100,13 +109,11 @@ pub fn read_rows(
     marks: &mut [u16],
     places: &mut [u16],
     lines: &mut [u32],
-) -> Answer
+) -> Result<Sizes, Question>
     ensures { Reads s.now
         (lists_of text.old ends.old kinds.old addresses.old marks.old places.old lines.old)
         (lists_of text.new ends.new kinds.new addresses.new marks.new places.new lines.new) result }
 {
-    let count = measure(s);
-    let sizes = count.sizes;
     let rooms = Rooms {
         text: text.len(),
         ends: ends.len(),
@@ -116,10 +123,7 @@ pub fn read_rows(
         places: places.len(),
         lines: lines.len(),
     };
-    let no = count_no(count, rooms);
-    if no != 0 {
-        return Answer::No(no);
-    }
+    let sizes = sizes(s, rooms)?;
     fill(s, text, ends, kinds, addresses, marks, places, lines);
-    Answer::Listed(sizes)
+    Ok(sizes)
 }

@@ -20,8 +20,8 @@ fn doubled_size(s: &[u8]) -> usize
     ensures { (result ≡ length (doubled s.now)) × (result ≤ 2 * length s.now) }
 {
     let mut n: usize = 0;
-    for i in 0..s.len() {
-        n += char_size(s[i]);
+    for &b in s {
+        n += char_size(b);
     }
     n
 }

@@ -1,7 +1,6 @@
 // Conditions: the nearest flag writer before the tested instruction, in the same block.
 ghost use Rattle.std.specs.Prelude.{◌≡◌, true, false, [], ◌∷◌, ◌++◌, List, ◌-◌, ◌<◌, ℕ, ◌≤◌, length};
 ghost use Rattle.tokens.specs.Token.{punct};
-ghost use Rattle.x86.specs.Table.{isa_bytes};
 ghost use Rattle.x86.specs.Conditions.{prints_unsigned};
 ghost use Rattle.operand.specs.Expr.{wrap_if};
 ghost use Rattle.operand.specs.Memory.{number};
@@ -12,7 +11,7 @@ ghost use Rattle.codes.specs.Tables.{table_bytes};
 ghost use Rattle.operand.specs.Lent.{Lent};
 
 use codes::code::{code_num, code_word};
-use codes::tables::isa_of;
+use codes::tables::Tables;
 use lists::parts::from;
 use operand::alike::alike;
 use operand::operand::op;
@@ -24,6 +23,7 @@ use x86::conditions::{
     prints_unsigned, relation_after_cmp, relation_after_other, relation_after_test,
 };
 use x86::mnemonics::writes_flags;
+use x86::table::Isa;
 
 // The body of instruction i.
 pub fn body_of(rec: &[u8], h: Header, i: u16) -> &[u8]
@@ -33,25 +33,21 @@ pub fn body_of(rec: &[u8], h: Header, i: u16) -> &[u8]
 }
 
 // The last instruction before i, from `first` on, that writes flags.
-fn flag_writer(isa: &[u8], bodies: &[u8], first: u16, i: u16) -> Option<u16>
-    requires { isa.now ≡ isa_bytes }
+fn flag_writer(isa: Isa<'_>, bodies: &[u8], first: u16, i: u16) -> Option<u16>
     ensures { result ≡ flag_writer bodies.now first (i - first) }
 {
-    let mut k = i;
-    while first < k {
-        let j = k - 1;
+    for j in (first..i).rev() {
         if writes_flags(isa, mnemonic(body_at(bodies, j))) {
             return Some(j);
         }
-        k = j;
     }
     None
 }
 
 // `__flags_` and the condition's name; for a number that names no condition an empty text.
-fn code_flags(codes: &mut [u64], tables: &[u8], cc: u8)
-    requires { (5 ≤ length codes.old) × (tables.now ≡ table_bytes) }
-    ensures { (s : List ℕ) → Coded tables.now s codes.old codes.new (flags_word cc ∷ []) }
+fn code_flags(codes: &mut [u64], tables: Tables<'_>, cc: u8)
+    requires { 5 ≤ length codes.old }
+    ensures { (s : List ℕ) → Coded table_bytes s codes.old codes.new (flags_word cc ∷ []) }
 {
     if (0 < cc) & (cc < 17) {
         return code_word(codes, tables, 75 + cc);
@@ -60,32 +56,32 @@ fn code_flags(codes: &mut [u64], tables: &[u8], cc: u8)
 }
 
 // An operator, and 0 behind it.
-fn code_against(codes: &mut [u64], tables: &[u8], relation: u8)
-    requires in_bounds { (5 ≤ length codes.old) × (tables.now ≡ table_bytes) }
+fn code_against(codes: &mut [u64], tables: Tables<'_>, relation: u8)
+    requires in_bounds { 5 ≤ length codes.old }
     requires relation_bound { relation < 6 }
-    ensures { (s : List ℕ) → Coded tables.now s codes.old codes.new (operator relation ∷ number false 0 ∷ []) }
+    ensures { (s : List ℕ) → Coded table_bytes s codes.old codes.new (operator relation ∷ number false 0 ∷ []) }
 {
     code_word(codes, tables, EQUAL + relation);
     code_num(codes, false, 0)
 }
 
 // The first operand, as unsigned where the rule reads unsigned.
-fn code_unsigned(codes: &mut [u64], tables: &[u8], rec: &[u8], h: Header, body: &[u8], cc: u8)
-    requires { Lent codes.old tables.now h rec.now }
-    ensures { Coded tables.now rec.now codes.old codes.new (unsigned_if (prints_unsigned cc) (op_tokens h rec.now body.now 0)) }
+fn code_unsigned(codes: &mut [u64], tables: Tables<'_>, rec: &[u8], h: Header, body: &[u8], cc: u8)
+    requires { Lent codes.old h rec.now }
+    ensures { Coded table_bytes rec.now codes.old codes.new (unsigned_if (prints_unsigned cc) (op_tokens h rec.now body.now 0)) }
 {
-    if prints_unsigned(isa_of(tables), cc) {
+    if prints_unsigned(tables.isa(), cc) {
         code_word(codes, tables, UNSIGNED);
         return op(codes, tables, rec, h, body, 0);
     }
     op(codes, tables, rec, h, body, 0)
 }
 
-fn after_cmp(codes: &mut [u64], tables: &[u8], rec: &[u8], h: Header, body: &[u8], cc: u8)
-    requires { Lent codes.old tables.now h rec.now }
-    ensures { Coded tables.now rec.now codes.old codes.new (after_cmp h rec.now body.now cc) }
+fn after_cmp(codes: &mut [u64], tables: Tables<'_>, rec: &[u8], h: Header, body: &[u8], cc: u8)
+    requires { Lent codes.old h rec.now }
+    ensures { Coded table_bytes rec.now codes.old codes.new (after_cmp h rec.now body.now cc) }
 {
-    let r = relation_after_cmp(isa_of(tables), cc);
+    let r = relation_after_cmp(tables.isa(), cc);
     if r < 6 {
         code_unsigned(codes, tables, rec, h, body, cc);
         code_word(codes, tables, EQUAL + r);
@@ -95,15 +91,15 @@ fn after_cmp(codes: &mut [u64], tables: &[u8], rec: &[u8], h: Header, body: &[u8
 }
 
 // After the other writers; BT and IMUL leave no flags that tell of the first operand.
-fn after_other(codes: &mut [u64], tables: &[u8], rec: &[u8], h: Header, body: &[u8], cc: u8)
-    requires { Lent codes.old tables.now h rec.now }
-    ensures { Coded tables.now rec.now codes.old codes.new (after_other h rec.now body.now cc) }
+fn after_other(codes: &mut [u64], tables: Tables<'_>, rec: &[u8], h: Header, body: &[u8], cc: u8)
+    requires { Lent codes.old h rec.now }
+    ensures { Coded table_bytes rec.now codes.old codes.new (after_other h rec.now body.now cc) }
 {
     let m = mnemonic(body);
     if (m == 40) | (m == 20) {
         return code_flags(codes, tables, cc);
     }
-    let r = relation_after_other(isa_of(tables), cc);
+    let r = relation_after_other(tables.isa(), cc);
     if r < 6 {
         op(codes, tables, rec, h, body, 0);
         return code_against(codes, tables, r);
@@ -112,9 +108,9 @@ fn after_other(codes: &mut [u64], tables: &[u8], rec: &[u8], h: Header, body: &[
 }
 
 // Both operands of TEST, with `&` between.
-fn code_and(codes: &mut [u64], tables: &[u8], rec: &[u8], h: Header, body: &[u8])
-    requires { Lent codes.old tables.now h rec.now }
-    ensures { Coded tables.now rec.now codes.old codes.new (op_tokens h rec.now body.now 0 ++ (punct " & " ∷ op_tokens h rec.now body.now 1)) }
+fn code_and(codes: &mut [u64], tables: Tables<'_>, rec: &[u8], h: Header, body: &[u8])
+    requires { Lent codes.old h rec.now }
+    ensures { Coded table_bytes rec.now codes.old codes.new (op_tokens h rec.now body.now 0 ++ (punct " & " ∷ op_tokens h rec.now body.now 1)) }
 {
     op(codes, tables, rec, h, body, 0);
     code_word(codes, tables, AND);
@@ -122,9 +118,9 @@ fn code_and(codes: &mut [u64], tables: &[u8], rec: &[u8], h: Header, body: &[u8]
 }
 
 // The same in parentheses.
-fn code_both(codes: &mut [u64], tables: &[u8], rec: &[u8], h: Header, body: &[u8])
-    requires { Lent codes.old tables.now h rec.now }
-    ensures { Coded tables.now rec.now codes.old codes.new (wrap_if true (op_tokens h rec.now body.now 0 ++ (punct " & " ∷ op_tokens h rec.now body.now 1))) }
+fn code_both(codes: &mut [u64], tables: Tables<'_>, rec: &[u8], h: Header, body: &[u8])
+    requires { Lent codes.old h rec.now }
+    ensures { Coded table_bytes rec.now codes.old codes.new (wrap_if true (op_tokens h rec.now body.now 0 ++ (punct " & " ∷ op_tokens h rec.now body.now 1))) }
 {
     code_word(codes, tables, OPEN);
     code_and(codes, tables, rec, h, body);
@@ -132,9 +128,9 @@ fn code_both(codes: &mut [u64], tables: &[u8], rec: &[u8], h: Header, body: &[u8
 }
 
 // What TEST compares with 0.
-fn code_tested(codes: &mut [u64], tables: &[u8], rec: &[u8], h: Header, body: &[u8])
-    requires { Lent codes.old tables.now h rec.now }
-    ensures { Coded tables.now rec.now codes.old codes.new (tested h rec.now body.now) }
+fn code_tested(codes: &mut [u64], tables: Tables<'_>, rec: &[u8], h: Header, body: &[u8])
+    requires { Lent codes.old h rec.now }
+    ensures { Coded table_bytes rec.now codes.old codes.new (tested h rec.now body.now) }
 {
     if alike(tables, rec, h, body) {
         return op(codes, tables, rec, h, body, 0);
@@ -142,11 +138,11 @@ fn code_tested(codes: &mut [u64], tables: &[u8], rec: &[u8], h: Header, body: &[
     code_both(codes, tables, rec, h, body)
 }
 
-fn after_test(codes: &mut [u64], tables: &[u8], rec: &[u8], h: Header, body: &[u8], cc: u8)
-    requires { Lent codes.old tables.now h rec.now }
-    ensures { Coded tables.now rec.now codes.old codes.new (after_test h rec.now body.now cc) }
+fn after_test(codes: &mut [u64], tables: Tables<'_>, rec: &[u8], h: Header, body: &[u8], cc: u8)
+    requires { Lent codes.old h rec.now }
+    ensures { Coded table_bytes rec.now codes.old codes.new (after_test h rec.now body.now cc) }
 {
-    let r = relation_after_test(isa_of(tables), cc);
+    let r = relation_after_test(tables.isa(), cc);
     if r < 6 {
         code_tested(codes, tables, rec, h, body);
         return code_against(codes, tables, r);
@@ -155,9 +151,9 @@ fn after_test(codes: &mut [u64], tables: &[u8], rec: &[u8], h: Header, body: &[u
 }
 
 // A condition after the flag writer with this body.
-fn after_writer(codes: &mut [u64], tables: &[u8], rec: &[u8], h: Header, body: &[u8], cc: u8)
-    requires { Lent codes.old tables.now h rec.now }
-    ensures { Coded tables.now rec.now codes.old codes.new (after_writer h rec.now body.now cc) }
+fn after_writer(codes: &mut [u64], tables: Tables<'_>, rec: &[u8], h: Header, body: &[u8], cc: u8)
+    requires { Lent codes.old h rec.now }
+    ensures { Coded table_bytes rec.now codes.old codes.new (after_writer h rec.now body.now cc) }
 {
     let m = mnemonic(body);
     if m == 38 {
@@ -172,18 +168,18 @@ fn after_writer(codes: &mut [u64], tables: &[u8], rec: &[u8], h: Header, body: &
 // Condition cc tested by instruction i of the block whose first instruction is `first`.
 pub fn condition(
     codes: &mut [u64],
-    tables: &[u8],
+    tables: Tables<'_>,
     rec: &[u8],
     h: Header,
     first: u16,
     i: u16,
     cc: u8,
 )
-    requires { Lent codes.old tables.now h rec.now }
-    ensures { Coded tables.now rec.now codes.old codes.new (condition_tokens h rec.now first i cc) }
+    requires { Lent codes.old h rec.now }
+    ensures { Coded table_bytes rec.now codes.old codes.new (condition_tokens h rec.now first i cc) }
 {
     let bodies = from(rec, bodies_at(h));
-    match flag_writer(isa_of(tables), bodies, first, i) {
+    match flag_writer(tables.isa(), bodies, first, i) {
         Some(p) => after_writer(codes, tables, rec, h, body_at(bodies, p), cc),
         None => code_flags(codes, tables, cc),
     }

@@ -2,7 +2,9 @@
 -- Each premise is what a call ensures, in order; each equation is put into the next.
 use Prim.Native.Nat.{ℕ, ◌+◌, ◌-◌, ◌*◌}
 use mathlib.Core.List.{List, [], ◌∷◌}
-use mathlib.Core.Path.{◌≡◌, sym, ap, ◌∙◌}
+use mathlib.Core.Bool.{Bool, true, false, not}
+use Rattle.std.specs.Int.{from_bool}
+use mathlib.Core.Path.{◌≡◌, refl, sym, ap, ◌∙◌}
 use lib.Dec.{eqb, leb}
 use lib.ListN.{drop, set}
 use Rattle.lists.specs.Choice.{pick}
@@ -20,11 +22,16 @@ use Rattle.flow.specs.Counted.{BlockHas, row_ending}
 pub array : (s p : List ℕ) (w v : ℕ) → w ≡ v → p ≡ drop w s → p ≡ drop v s
 array s p w v a b = b ∙ ap (λ (k : ℕ). drop k s) a
 
+-- the byte of a test that says no
+byte_of : (b : Bool) → from_bool (not b) ≡ pick b 0 1
+byte_of true = refl
+byte_of false = refl
+
 module _ (h : Header) (s : List ℕ) where
-  pub shown_stored : (i : ℕ) (bodies body l l' : List ℕ) (z v : ℕ) → bodies ≡ bodies_of h s → z ≡ i → body ≡ body_at bodies i
-      → v ≡ pick (is_silent_itself h.bits h.frame body) 0 1 → l' ≡ set l z v → l' ≡ put i (shown_row h s i) l
+  pub shown_stored : (i : ℕ) (bodies body l l' : List ℕ) (z v : ℕ) (b : Bool) → bodies ≡ bodies_of h s → z ≡ i → body ≡ body_at bodies i
+      → b ≡ not (is_silent_itself h.bits h.frame body) → v ≡ from_bool b → l' ≡ set l z v → l' ≡ put i (shown_row h s i) l
   unfolding shown_row
-  shown_stored i bodies body l l' z v a b c d e = e ∙ rw (d, c, a, b, put_cons, put_none)
+  shown_stored i bodies body l l' z v b a z' c d f e = e ∙ rw (f, d, byte_of, c, a, z', put_cons, put_none)
 
   pub edge_stored : (e : ℕ) (targets kinds l l' : List ℕ) (va to z kind : ℕ) → targets ≡ targets_of h s → kinds ≡ edge_kinds_of h s → va ≡ target_at targets e
       → to ≡ place_of h s va → z ≡ e → kind ≡ edge_kind_at kinds e → l' ≡ put (2 * z) (to ∷ kind ∷ []) l → l' ≡ put (2 * e) (edge_row h s e) l

@@ -1,7 +1,6 @@
 // The plan of a range of a record's blocks.
 ghost use Rattle.std.specs.Prelude.{◌≡◌, ◌-◌, ◌*◌, ◌≤◌, length};
 ghost use Rattle.structure.specs.Stored.{Stored};
-ghost use Rattle.x86.specs.Table.{isa_bytes};
 ghost use Rattle.flow.specs.Rows.{block_rows};
 ghost use Rattle.flow.specs.Counted.{Plannable};
 ghost use Rattle.flow.specs.Planned.{record_codes, record_looks};
@@ -9,13 +8,14 @@ ghost use Rattle.flow.specs.Planned.{record_codes, record_looks};
 use crate::rows::{edge_rows, shown_rows};
 use lists::parts::{from as part_from, part};
 use record::header::Header;
-use record::layout::{size, targets_at};
+use record::layout::targets_at;
 use structure::blocks::Written;
 use structure::plan::plan;
+use x86::table::Isa;
 
 // The lines' codes from the start of the list on, with the rows of edges in a list that has room for them.
 fn plan_edges(
-    isa: &[u8],
+    isa: Isa<'_>,
     rec: &[u8],
     h: Header,
     blocks: &[u16],
@@ -24,7 +24,6 @@ fn plan_edges(
     to: u16,
     out: &mut [u64],
 ) -> Written
-    requires isa { isa.now ≡ isa_bytes }
     requires asked { Plannable h rec.now from to }
     requires rows { blocks.now ≡ block_rows h rec.now }
     requires room { 2 * h.edges ≤ length edges.old }
@@ -34,8 +33,8 @@ fn plan_edges(
     let mut shown = [0u8; 500];
     edge_rows(rec, h, edges);
     shown_rows(isa, rec, h, &mut shown);
-    let e = part(edges, 0, 2 * size(h.edges));
-    let s = part(&shown, 0, size(h.instructions));
+    let e = part(edges, 0, 2 * usize::from(h.edges));
+    let s = part(&shown, 0, usize::from(h.instructions));
     plan(
         blocks,
         e,
@@ -53,7 +52,7 @@ fn plan_edges(
 // The lines' codes from the start of the list on; answers how many there are, stored or not, and how many edges were read. The blocks' rows are lent. Few edges have a
 // short list.
 pub fn plan_record(
-    isa: &[u8],
+    isa: Isa<'_>,
     rec: &[u8],
     h: Header,
     blocks: &[u16],
@@ -61,7 +60,6 @@ pub fn plan_record(
     to: u16,
     out: &mut [u64],
 ) -> Written
-    requires isa { isa.now ≡ isa_bytes }
     requires asked { Plannable h rec.now from to }
     requires rows { blocks.now ≡ block_rows h rec.now }
     ensures lines { Stored out.old 0 (record_codes h rec.now from to) result.next out.new }

@@ -1,6 +1,5 @@
 // Which instructions are silent by themselves, and how a block ends: over the part of the record that begins at a body.
 ghost use Rattle.std.specs.Prelude.{◌≡◌, ◌||◌, eqb, ◌≤◌};
-ghost use Rattle.x86.specs.Table.{isa_bytes};
 ghost use Rattle.flow.specs.Classes.{silent_class, class_table};
 ghost use Rattle.flow.specs.Silent.{folded, padding, register_first, moves_frame, is_prologue_noise, is_direct_jmp, is_skipped, is_silent_itself, ending_of};
 
@@ -9,6 +8,7 @@ use record::body::{
     condition_code, is_conditional_branch, mnemonic, op_kind, op_register, skip_mark,
 };
 use x86::registers::callee_saved;
+use x86::table::Isa;
 use x86::width::is_stack_pointer;
 
 fn either(m: u8, a: u8, b: u8) -> bool
@@ -50,8 +50,8 @@ fn moves_frame(bits: u16, frame: u16, body: &[u8]) -> bool
 }
 
 // Saves and restores of the registers that a callee saves, moves of the stack pointer, and padding.
-pub fn is_prologue_noise(isa: &[u8], bits: u16, frame: u16, body: &[u8]) -> bool
-    requires { isa.now ≡ isa_bytes }
+#[tactic(auto, unfolding(crate::specs::Silent::is_prologue_noise))]
+pub fn is_prologue_noise(isa: Isa<'_>, bits: u16, frame: u16, body: &[u8]) -> bool
     ensures { result ≡ is_prologue_noise bits frame body.now }
 {
     let m = mnemonic(body);
@@ -78,15 +78,14 @@ pub fn is_direct_jmp(body: &[u8]) -> bool
     (mnemonic(body) == 25) & (op_kind(body, 0) == 2)
 }
 
-pub fn is_skipped(isa: &[u8], bits: u16, frame: u16, body: &[u8]) -> bool
-    requires { isa.now ≡ isa_bytes }
+pub fn is_skipped(isa: Isa<'_>, bits: u16, frame: u16, body: &[u8]) -> bool
     ensures { result ≡ is_skipped bits frame body.now }
 {
     (skip_mark(body) == 1) | is_prologue_noise(isa, bits, frame, body)
 }
 
-pub fn is_silent_itself(isa: &[u8], bits: u16, frame: u16, body: &[u8]) -> bool
-    requires { isa.now ≡ isa_bytes }
+#[tactic(auto, unfolding(crate::specs::Silent::is_silent_itself))]
+pub fn is_silent_itself(isa: Isa<'_>, bits: u16, frame: u16, body: &[u8]) -> bool
     ensures { result ≡ is_silent_itself bits frame body.now }
 {
     is_skipped(isa, bits, frame, body) | is_folded(mnemonic(body)) | is_direct_jmp(body)
@@ -113,20 +112,31 @@ const CLASSES: ClassTable = *b"\
     \0\0\0\0\0\0\0\0\0\0\0\0\0\0\0\0\
     \0\0\0\0\0\0\0\0\0\0\0\0\0\0\0\0";
 
+#[tactic(auto, unfolding(crate::specs::Classes::silent_class, crate::specs::Classes::class_table))]
 pub fn class_table() -> ClassTable
     ensures { result ≡ class_table }
 {
     CLASSES
 }
 
-pub fn silent_class(classes: &[u8], m: u8) -> u8
-    requires { classes.now ≡ class_table }
-    ensures { result ≡ silent_class m }
-{
-    plain_u8(classes, m as usize)
+// That table, lent.
+#[derive(Clone, Copy)]
+pub struct Classes<'a> {
+    pub bytes: &'a [u8],
+    pub ghost whole: { bytes.now ≡ class_table },
 }
 
-// How a block with this last instruction ends: 1 with a condition, 2 with a condition and a near branch, 3 with a direct jmp.
+// A number and no enum, since the table is one of bytes.
+#[tactic(auto, using(crate::proofs::Classes::class_read, crate::proofs::Classes::class_length))]
+pub fn silent_class(classes: Classes<'_>, m: u8) -> u8
+    ensures { result ≡ silent_class m }
+{
+    plain_u8(classes.bytes, m as usize)
+}
+
+// How a block with this last instruction ends: 1 with a condition, 2 with a condition and a near branch, 3 with a direct jmp. A number and no enum,
+// since it stands in a block's row.
+#[tactic(auto, unfolding(crate::specs::Silent::ending_of))]
 pub fn ending_of(body: &[u8]) -> u8
     ensures { (result ≡ ending_of body.now) × (result ≤ 3) }
 {

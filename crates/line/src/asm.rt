@@ -11,6 +11,7 @@ ghost use Rattle.line.specs.Print.{insn_name, name_length, assembled, assembly_t
 
 use codes::code::{code_mnemonic, code_part, code_word};
 use codes::state::set_plain;
+use codes::tables::Tables;
 use expressions::arguments::code_listed;
 use lists::parts::from;
 use lists::reads::u8_at;
@@ -39,23 +40,23 @@ fn name_place(h: Header, i: u16) -> u32
 }
 
 // The name of instruction i: its mnemonic's, or the record's.
-fn code_name(codes: &mut [u64], tables: &[u8], rec: &[u8], h: Header, i: u16, body: &[u8])
-    requires in_bounds { (5 ≤ length codes.old) × (tables.now ≡ table_bytes) }
+fn code_name(codes: &mut [u64], tables: Tables<'_>, rec: &[u8], h: Header, i: u16, body: &[u8])
+    requires in_bounds { 5 ≤ length codes.old }
     requires body_value { body.now ≡ body_of h rec.now i }
-    ensures { Coded tables.now rec.now codes.old codes.new (token 0 (insn_name body.now) ∷ []) }
+    ensures { Coded table_bytes rec.now codes.old codes.new (token 0 (insn_name body.now) ∷ []) }
 {
     let m = mnemonic(body);
     if m == 0 {
         let n = name_length(from(body, 68));
-        return code_part(codes, tables, rec, 0, name_place(h, i), n as u16);
+        return code_part(codes, rec, 0, name_place(h, i), n as u16);
     }
     code_mnemonic(codes, tables, m)
 }
 
 // The operands with commas between.
-fn code_operands(codes: &mut [u64], tables: &[u8], rec: &[u8], h: Header, body: &[u8])
-    requires { Lent codes.old tables.now h rec.now }
-    ensures { Coded tables.now rec.now codes.old codes.new (assembled h rec.now body.now false 0 (operand_count body.now)) }
+fn code_operands(codes: &mut [u64], tables: Tables<'_>, rec: &[u8], h: Header, body: &[u8])
+    requires { Lent codes.old h rec.now }
+    ensures { Coded table_bytes rec.now codes.old codes.new (assembled h rec.now body.now false 0 (operand_count body.now)) }
 {
     let n = op_count(body);
     for i in 0..n {
@@ -64,11 +65,11 @@ fn code_operands(codes: &mut [u64], tables: &[u8], rec: &[u8], h: Header, body: 
 }
 
 // All of instruction i, as Text.
-pub fn assembly(codes: &mut [u64], tables: &[u8], rec: &[u8], h: Header, i: u16, body: &[u8])
-    requires lent { Lent codes.old tables.now h rec.now }
+pub fn assembly(codes: &mut [u64], tables: Tables<'_>, rec: &[u8], h: Header, i: u16, body: &[u8])
+    requires lent { Lent codes.old h rec.now }
     requires body_value { body.now ≡ body_of h rec.now i }
     requires codes_value { is_plain codes.old ≡ false }
-    ensures { Coded tables.now rec.now codes.old codes.new (assembly_tokens h rec.now body.now) }
+    ensures { Coded table_bytes rec.now codes.old codes.new (assembly_tokens h rec.now body.now) }
 {
     set_plain(codes, true);
     code_name(codes, tables, rec, h, i, body);

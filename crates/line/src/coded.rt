@@ -3,7 +3,6 @@ ghost use Rattle.std.specs.Prelude.{false, [], ◌∷◌, map, ◌≡◌};
 ghost use Rattle.codes.specs.Coded.{is_plain, Coded};
 ghost use Rattle.codes.specs.Lines.{AtLine, CodedLines};
 ghost use Rattle.codes.specs.Tables.{table_bytes};
-ghost use Rattle.x86.specs.Table.{isa_bytes};
 ghost use Rattle.operand.specs.Lent.{Lent};
 ghost use Rattle.flow.specs.Rows.{block_rows};
 ghost use Rattle.line.specs.Codes.{form_number, row_bytes};
@@ -13,8 +12,9 @@ ghost use Rattle.line.specs.Print.{line_tokens, mask_after, printed};
 
 use crate::forms::{insn_form, return_form, returns_value};
 use crate::pieces::{Site, code_frame, code_row};
+use crate::rows::Rows;
 use codes::state::put_end;
-use codes::tables::isa_of;
+use codes::tables::Tables;
 use expressions::arguments::written_after;
 use expressions::condition::body_of;
 use lists::parts::from;
@@ -23,12 +23,11 @@ use record::body::{body_at, mnemonic};
 use record::header::Header;
 use record::layout::{bodies_at, size};
 use structure::codes::{instruction_of, place_of_line, what_of};
+use x86::table::Isa;
 
 // The form of a line of instruction i, in the block whose first instruction is `first`: most mnemonics decide it alone, and the table has
 // it. Only a ret asks whether a value is left.
-fn line_form(isa: &[u8], rows: &[u8], rec: &[u8], h: Header, what: u8, first: u16, i: u16) -> u8
-    requires isa_value { isa.now ≡ isa_bytes }
-    requires rows_value { rows.now ≡ row_bytes }
+fn line_form(isa: Isa<'_>, rows: Rows<'_>, rec: &[u8], h: Header, what: u8, first: u16, i: u16) -> u8
     ensures { result ≡ form_number (form_of h rec.now (what_at what) first i) }
 {
     if what < 8 {
@@ -37,7 +36,7 @@ fn line_form(isa: &[u8], rows: &[u8], rec: &[u8], h: Header, what: u8, first: u1
     let bodies = from(rec, bodies_at(h));
     let body = body_at(bodies, i);
     let m = mnemonic(body);
-    let form = rows[768 + m as usize];
+    let form = rows.bytes[768 + m as usize];
     if form < 48 {
         return form;
     }
@@ -48,39 +47,37 @@ fn line_form(isa: &[u8], rows: &[u8], rec: &[u8], h: Header, what: u8, first: u1
 }
 
 // The registers written behind a line: only an instruction's own line changes them.
-pub fn mask_after(tables: &[u8], rec: &[u8], h: Header, mask: u16, code: u64) -> u16
-    requires { tables.now ≡ table_bytes }
+pub fn mask_after(tables: Tables<'_>, rec: &[u8], h: Header, mask: u16, code: u64) -> u16
     ensures { result ≡ mask_after h rec.now mask (line_in code).what (line_in code).at }
 {
     if what_of(code) < 8 {
         return mask;
     }
-    written_after(isa_of(tables), mask, body_of(rec, h, instruction_of(code)))
+    written_after(tables.isa(), mask, body_of(rec, h, instruction_of(code)))
 }
 
 // The tokens of a planned line, in a range whose first instruction is `range`.
 fn code_tokens(
     codes: &mut [u64],
-    tables: &[u8],
+    tables: Tables<'_>,
     rec: &[u8],
     h: Header,
-    rows: &[u8],
+    rows: Rows<'_>,
     blocks: &[u16],
     range: u16,
     mask: u16,
     code: u64,
 )
-    requires lent { Lent codes.old tables.now h rec.now }
-    requires rows_value { rows.now ≡ row_bytes }
+    requires lent { Lent codes.old h rec.now }
     requires blocks_value { blocks.now ≡ block_rows h rec.now }
     requires codes_value { is_plain codes.old ≡ false }
-    ensures { Coded tables.now rec.now codes.old codes.new (line_tokens h rec.now range mask (line_in code)) }
+    ensures { Coded table_bytes rec.now codes.old codes.new (line_tokens h rec.now range mask (line_in code)) }
 {
     let place = place_of_line(code);
     let i = instruction_of(code);
     let first = element_or(blocks, 8 * size(place), 0);
     let what = what_of(code);
-    let form = line_form(isa_of(tables), rows, rec, h, what, first, i);
+    let form = line_form(tables.isa(), rows, rec, h, what, first, i);
     let site = Site {
         at: i,
         first: first,
@@ -98,20 +95,19 @@ fn code_tokens(
 // The same, and the line's end.
 fn code_line(
     codes: &mut [u64],
-    tables: &[u8],
+    tables: Tables<'_>,
     rec: &[u8],
     h: Header,
-    rows: &[u8],
+    rows: Rows<'_>,
     blocks: &[u16],
     range: u16,
     mask: u16,
     code: u64,
 )
-    requires lent { Lent codes.old tables.now h rec.now }
-    requires rows_value { rows.now ≡ row_bytes }
+    requires lent { Lent codes.old h rec.now }
     requires blocks_value { blocks.now ≡ block_rows h rec.now }
     requires at_line { AtLine codes.old }
-    ensures { CodedLines tables.now rec.now codes.old codes.new (line_tokens h rec.now range mask (line_in code) ∷ []) }
+    ensures { CodedLines table_bytes rec.now codes.old codes.new (line_tokens h rec.now range mask (line_in code) ∷ []) }
 {
     code_tokens(codes, tables, rec, h, rows, blocks, range, mask, code);
     put_end(codes)
@@ -120,24 +116,22 @@ fn code_line(
 // The lines of a plan, with the registers written before the first.
 pub fn code_lines(
     codes: &mut [u64],
-    tables: &[u8],
+    tables: Tables<'_>,
     rec: &[u8],
     h: Header,
-    rows: &[u8],
+    rows: Rows<'_>,
     blocks: &[u16],
     range: u16,
     written: u16,
     plan: &[u64],
 )
-    requires lent { Lent codes.old tables.now h rec.now }
-    requires rows_value { rows.now ≡ row_bytes }
+    requires lent { Lent codes.old h rec.now }
     requires blocks_value { blocks.now ≡ block_rows h rec.now }
     requires at_line { AtLine codes.old }
-    ensures { CodedLines tables.now rec.now codes.old codes.new (printed h rec.now range written (map line_in plan.now)) }
+    ensures { CodedLines table_bytes rec.now codes.old codes.new (printed h rec.now range written (map line_in plan.now)) }
 {
     let mut mask: u16 = written;
-    for i in 0..plan.len() {
-        let code = plan[i];
+    for &code in plan {
         code_line(codes, tables, rec, h, rows, blocks, range, mask, code);
         mask = mask_after(tables, rec, h, mask, code);
     }

@@ -1,6 +1,5 @@
 // Which form a line has.
 ghost use Rattle.std.specs.Prelude.{true, false, ◌≡◌, ◌≤◌};
-ghost use Rattle.x86.specs.Table.{isa_bytes};
 ghost use Rattle.record.specs.Body.{mnemonic_of};
 ghost use Rattle.line.specs.Codes.{form_number, by_operands};
 ghost use Rattle.line.specs.Forms.{cast_form, is_xor_self, is_and_zero, is_or_ones, imul_form, call_form, xchg_form, logic_form, return_form, jump_form, insn_form, leaves_value, value_before, returns_value};
@@ -9,9 +8,9 @@ use record::body::{
     body_at, memory_base, memory_size, mnemonic, op_count, op_kind, op_number, op_register,
 };
 use x86::registers::{full_register, register_size};
+use x86::table::Isa;
 
-fn cast_form(isa: &[u8], m: u8, body: &[u8]) -> u8
-    requires { isa.now ≡ isa_bytes }
+fn cast_form(isa: Isa<'_>, m: u8, body: &[u8]) -> u8
     ensures { result ≡ form_number (cast_form m body.now) }
 {
     let narrow = register_size(isa, op_register(body, 0)) == 4;
@@ -84,8 +83,7 @@ fn xchg_form(body: &[u8]) -> u8
 }
 
 // An instruction that leaves a value in the accumulator.
-pub fn leaves_value(isa: &[u8], body: &[u8]) -> bool
-    requires { isa.now ≡ isa_bytes }
+pub fn leaves_value(isa: Isa<'_>, body: &[u8]) -> bool
     ensures { result ≡ leaves_value body.now }
 {
     ((0 < op_count(body))
@@ -139,8 +137,7 @@ fn jump_form(body: &[u8]) -> u8
 }
 
 // The form of an instruction's own line, where its operands decide it.
-pub fn insn_form(isa: &[u8], body: &[u8]) -> u8
-    requires isa_value { isa.now ≡ isa_bytes }
+pub fn insn_form(isa: Isa<'_>, body: &[u8]) -> u8
     requires body_value { by_operands (mnemonic_of body.now) ≡ true }
     ensures { result ≡ form_number (insn_form false body.now) }
 {
@@ -164,8 +161,7 @@ pub fn insn_form(isa: &[u8], body: &[u8]) -> u8
 }
 
 // Whether one of the six instructions before instruction i of its block, whose first is `first`, leaves a value.
-pub fn returns_value(isa: &[u8], bodies: &[u8], first: u16, i: u16) -> bool
-    requires { isa.now ≡ isa_bytes }
+pub fn returns_value(isa: Isa<'_>, bodies: &[u8], first: u16, i: u16) -> bool
     ensures { result ≡ returns_value bodies.now first i }
 {
     for k in 0..6 {
@@ -177,8 +173,8 @@ pub fn returns_value(isa: &[u8], bodies: &[u8], first: u16, i: u16) -> bool
 }
 
 // Whether instruction i - 1 - k is of the block and leaves a value.
-fn value_before(isa: &[u8], bodies: &[u8], first: u16, i: u16, k: u16) -> bool
-    requires { (isa.now ≡ isa_bytes) × (k ≤ 6) }
+fn value_before(isa: Isa<'_>, bodies: &[u8], first: u16, i: u16, k: u16) -> bool
+    requires { k ≤ 6 }
     ensures { result ≡ value_before bodies.now first i k }
 {
     if (first as u32) + (k as u32) < (i as u32) {

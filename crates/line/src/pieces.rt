@@ -12,9 +12,9 @@ ghost use Rattle.line.specs.Codes.{row_bytes, piece_of, codes_of};
 ghost use Rattle.line.specs.Print.{piece_tokens, pieces_tokens};
 
 use crate::asm::assembly;
-use crate::rows::row_codes;
+use crate::rows::Rows;
 use codes::code::{code_num, code_prefixed, code_register, code_word};
-use codes::tables::isa_of;
+use codes::tables::Tables;
 use expressions::arguments::arguments;
 use expressions::condition::condition;
 use lists::parts::from;
@@ -40,19 +40,19 @@ pub struct Site {
 }
 
 // The return register.
-fn code_accumulator(codes: &mut [u64], tables: &[u8], bits: u16)
-    requires { (5 ≤ length codes.old) × (tables.now ≡ table_bytes) }
-    ensures { (s : List ℕ) → Coded tables.now s codes.old codes.new (register_token (return_register bits) ∷ []) }
+fn code_accumulator(codes: &mut [u64], tables: Tables<'_>, bits: u16)
+    requires { 5 ≤ length codes.old }
+    ensures { (s : List ℕ) → Coded table_bytes s codes.old codes.new (register_token (return_register bits) ∷ []) }
 {
     code_register(codes, tables, return_register(bits))
 }
 
 // The memory operand as an address, 0 and -1: pieces 136 to 138.
-fn code_value(codes: &mut [u64], tables: &[u8], rec: &[u8], h: Header, body: &[u8], piece: u8)
-    requires lent { Lent codes.old tables.now h rec.now }
+fn code_value(codes: &mut [u64], tables: Tables<'_>, rec: &[u8], h: Header, body: &[u8], piece: u8)
+    requires lent { Lent codes.old h rec.now }
     requires le_piece { (136 ≤ piece) × (piece < 139) }
     ensures { (site : Site) → body.now ≡ body_of h rec.now site.at
-        → Coded tables.now rec.now codes.old codes.new (piece_tokens h rec.now site (piece_of piece)) }
+        → Coded table_bytes rec.now codes.old codes.new (piece_tokens h rec.now site (piece_of piece)) }
 {
     if piece == 136 {
         return mem(codes, tables, rec, h, body, false);
@@ -66,40 +66,40 @@ fn code_value(codes: &mut [u64], tables: &[u8], rec: &[u8], h: Header, body: &[u
 // The condition, or the one that it turns into: pieces 139 and 140.
 fn code_tested(
     codes: &mut [u64],
-    tables: &[u8],
+    tables: Tables<'_>,
     rec: &[u8],
     h: Header,
     site: Site,
     body: &[u8],
     piece: u8,
 )
-    requires lent { Lent codes.old tables.now h rec.now }
+    requires lent { Lent codes.old h rec.now }
     requires body_value { body.now ≡ body_of h rec.now site.at }
     requires le_piece { (139 ≤ piece) × (piece < 141) }
-    ensures { Coded tables.now rec.now codes.old codes.new (piece_tokens h rec.now site (piece_of piece)) }
+    ensures { Coded table_bytes rec.now codes.old codes.new (piece_tokens h rec.now site (piece_of piece)) }
 {
     let cc = condition_code(body);
     if piece == 139 {
         return condition(codes, tables, rec, h, site.first, site.at, cc);
     }
-    let n = negate(isa_of(tables), cc);
+    let n = negate(tables.isa(), cc);
     condition(codes, tables, rec, h, site.first, site.at, n)
 }
 
 // The names of the branch's target and of the block: pieces 142 to 144.
 fn code_named(
     codes: &mut [u64],
-    tables: &[u8],
+    tables: Tables<'_>,
     rec: &[u8],
     h: Header,
     site: Site,
     body: &[u8],
     piece: u8,
 )
-    requires lent { Lent codes.old tables.now h rec.now }
+    requires lent { Lent codes.old h rec.now }
     requires body_value { body.now ≡ body_of h rec.now site.at }
     requires le_piece { (142 ≤ piece) × (piece < 145) }
-    ensures { Coded tables.now rec.now codes.old codes.new (piece_tokens h rec.now site (piece_of piece)) }
+    ensures { Coded table_bytes rec.now codes.old codes.new (piece_tokens h rec.now site (piece_of piece)) }
 {
     if piece == 142 {
         return name_or(codes, tables, rec, h, op_number(body, 0), LOC);
@@ -112,10 +112,10 @@ fn code_named(
 }
 
 // The registers rax, eax and ecx, from piece 147 on; past the last piece 0.
-fn code_fixed(codes: &mut [u64], tables: &[u8], h: Header, piece: u8)
-    requires in_bounds { (5 ≤ length codes.old) × (tables.now ≡ table_bytes) }
+fn code_fixed(codes: &mut [u64], tables: Tables<'_>, h: Header, piece: u8)
+    requires in_bounds { 5 ≤ length codes.old }
     requires le_piece { 147 ≤ piece }
-    ensures { (s : List ℕ) (site : Site) → Coded tables.now s codes.old codes.new (piece_tokens h s site (piece_of piece)) }
+    ensures { (s : List ℕ) (site : Site) → Coded table_bytes s codes.old codes.new (piece_tokens h s site (piece_of piece)) }
 {
     if piece == 147 {
         return code_register(codes, tables, 0x50);
@@ -132,18 +132,18 @@ fn code_fixed(codes: &mut [u64], tables: &[u8], h: Header, piece: u8)
 // The pieces from 145 on.
 fn code_late(
     codes: &mut [u64],
-    tables: &[u8],
+    tables: Tables<'_>,
     rec: &[u8],
     h: Header,
     site: Site,
     body: &[u8],
     piece: u8,
 )
-    requires lent { Lent codes.old tables.now h rec.now }
+    requires lent { Lent codes.old h rec.now }
     requires body_value { body.now ≡ body_of h rec.now site.at }
     requires codes_value { is_plain codes.old ≡ false }
     requires le_piece { 145 ≤ piece }
-    ensures { Coded tables.now rec.now codes.old codes.new (piece_tokens h rec.now site (piece_of piece)) }
+    ensures { Coded table_bytes rec.now codes.old codes.new (piece_tokens h rec.now site (piece_of piece)) }
 {
     if piece == 145 {
         return code_accumulator(codes, tables, h.bits);
@@ -157,18 +157,18 @@ fn code_late(
 // The pieces that are neither words nor operands.
 fn code_special(
     codes: &mut [u64],
-    tables: &[u8],
+    tables: Tables<'_>,
     rec: &[u8],
     h: Header,
     site: Site,
     body: &[u8],
     piece: u8,
 )
-    requires lent { Lent codes.old tables.now h rec.now }
+    requires lent { Lent codes.old h rec.now }
     requires body_value { body.now ≡ body_of h rec.now site.at }
     requires codes_value { is_plain codes.old ≡ false }
     requires le_piece { 136 ≤ piece }
-    ensures { Coded tables.now rec.now codes.old codes.new (piece_tokens h rec.now site (piece_of piece)) }
+    ensures { Coded table_bytes rec.now codes.old codes.new (piece_tokens h rec.now site (piece_of piece)) }
 {
     if piece < 139 {
         return code_value(codes, tables, rec, h, body, piece);
@@ -185,17 +185,10 @@ fn code_special(
     code_late(codes, tables, rec, h, site, body, piece)
 }
 
-// The operand that a piece below 136 stands for.
-fn slot_of(piece: u8) -> u8
-    ensures { result ≡ piece - 128 }
-{
-    if piece < 128 { 0 } else { piece - 128 }
-}
-
 // Operand k: most are registers, memory and small numbers, which no span and no sign can change.
-fn code_operand(codes: &mut [u64], tables: &[u8], rec: &[u8], h: Header, body: &[u8], k: u8)
-    requires { Lent codes.old tables.now h rec.now }
-    ensures { Coded tables.now rec.now codes.old codes.new (op_tokens h rec.now body.now k) }
+fn code_operand(codes: &mut [u64], tables: Tables<'_>, rec: &[u8], h: Header, body: &[u8], k: u8)
+    requires { Lent codes.old h rec.now }
+    ensures { Coded table_bytes rec.now codes.old codes.new (op_tokens h rec.now body.now k) }
 {
     let kind = op_kind(body, k);
     if kind == 0 {
@@ -214,29 +207,27 @@ fn code_operand(codes: &mut [u64], tables: &[u8], rec: &[u8], h: Header, body: &
 // The row of a form of an instruction's own line: words and operands are most of its pieces, so they are asked for here.
 pub fn code_row(
     codes: &mut [u64],
-    tables: &[u8],
+    tables: Tables<'_>,
     rec: &[u8],
     h: Header,
-    rows: &[u8],
+    rows: Rows<'_>,
     site: Site,
     body: &[u8],
     form: u8,
 )
-    requires lent { Lent codes.old tables.now h rec.now }
-    requires rows_value { rows.now ≡ row_bytes }
+    requires lent { Lent codes.old h rec.now }
     requires body_value { body.now ≡ body_of h rec.now site.at }
     requires codes_value { is_plain codes.old ≡ false }
     requires form_bound { form < 48 }
-    ensures { Coded tables.now rec.now codes.old codes.new (pieces_tokens h rec.now site (map piece_of (codes_of form))) }
+    ensures { Coded table_bytes rec.now codes.old codes.new (pieces_tokens h rec.now site (map piece_of (codes_of form))) }
 {
-    let pieces = row_codes(rows, form);
-    for i in 0..pieces.len() {
-        let piece = pieces[i];
+    let pieces = rows.codes(form);
+    for &piece in pieces {
         if piece < 102 {
             code_word(codes, tables, piece);
         } else {
             if piece < 136 {
-                code_operand(codes, tables, rec, h, body, slot_of(piece));
+                code_operand(codes, tables, rec, h, body, piece.saturating_sub(128));
             } else {
                 code_special(codes, tables, rec, h, site, body, piece);
             }
@@ -247,21 +238,21 @@ pub fn code_row(
 // A piece that is no word.
 fn code_piece(
     codes: &mut [u64],
-    tables: &[u8],
+    tables: Tables<'_>,
     rec: &[u8],
     h: Header,
     site: Site,
     body: &[u8],
     piece: u8,
 )
-    requires lent { Lent codes.old tables.now h rec.now }
+    requires lent { Lent codes.old h rec.now }
     requires body_value { body.now ≡ body_of h rec.now site.at }
     requires codes_value { is_plain codes.old ≡ false }
     requires le_piece { 102 ≤ piece }
-    ensures { Coded tables.now rec.now codes.old codes.new (piece_tokens h rec.now site (piece_of piece)) }
+    ensures { Coded table_bytes rec.now codes.old codes.new (piece_tokens h rec.now site (piece_of piece)) }
 {
     if piece < 136 {
-        return op(codes, tables, rec, h, body, slot_of(piece));
+        return op(codes, tables, rec, h, body, piece.saturating_sub(128));
     }
     code_special(codes, tables, rec, h, site, body, piece)
 }
@@ -269,24 +260,22 @@ fn code_piece(
 // The row of a form of any other line. Two loops keep the rare pieces out of both.
 pub fn code_frame(
     codes: &mut [u64],
-    tables: &[u8],
+    tables: Tables<'_>,
     rec: &[u8],
     h: Header,
-    rows: &[u8],
+    rows: Rows<'_>,
     site: Site,
     body: &[u8],
     form: u8,
 )
-    requires lent { Lent codes.old tables.now h rec.now }
-    requires rows_value { rows.now ≡ row_bytes }
+    requires lent { Lent codes.old h rec.now }
     requires body_value { body.now ≡ body_of h rec.now site.at }
     requires codes_value { is_plain codes.old ≡ false }
     requires form_bound { form < 48 }
-    ensures { Coded tables.now rec.now codes.old codes.new (pieces_tokens h rec.now site (map piece_of (codes_of form))) }
+    ensures { Coded table_bytes rec.now codes.old codes.new (pieces_tokens h rec.now site (map piece_of (codes_of form))) }
 {
-    let pieces = row_codes(rows, form);
-    for i in 0..pieces.len() {
-        let piece = pieces[i];
+    let pieces = rows.codes(form);
+    for &piece in pieces {
         if piece < 102 {
             code_word(codes, tables, piece);
         } else {

@@ -80,13 +80,21 @@ pub fn row_table() -> Table
     ROWS
 }
 
-// The pieces of a form, by their numbers.
-pub fn row_codes(rows: &[u8], form: u8) -> &[u8]
-    requires rows_value { rows.now ≡ row_bytes }
-    requires form_bound { form < 48 }
-    ensures { result.now ≡ codes_of form }
-{
-    let k = 16 * form as usize;
-    let n = rows[k] as usize;
-    &rows[k + 1..k + 1 + n]
+// The table, as a caller lends it.
+#[derive(Clone, Copy)]
+pub struct Rows<'a> {
+    pub bytes: &'a [u8],
+    pub ghost whole: { bytes.now ≡ row_bytes },
+}
+
+impl<'a> Rows<'a> {
+    // The pieces of a form, by their numbers.
+    pub fn codes(self, form: u8) -> &'a [u8]
+        requires { form < 48 }
+        ensures { result.now ≡ codes_of form }
+    {
+        let k = 16 * form as usize;
+        let n = self.bytes[k] as usize;
+        &self.bytes[k + 1..k + 1 + n]
+    }
 }

@@ -1,15 +1,16 @@
 // Prints small routine k as a record, k read in decimal from standard input, or `no 18`.
 #![tactic(auto)]
 
-ghost use Rattle.std.specs.Prelude.{◌≡◌, true, false, ℕ, ◌≤◌, ◌<◌, length, take};
+ghost use Rattle.std.specs.Prelude.{◌≡◌, true, false, ℕ, ◌≤◌, ◌<◌, length, take, MatchOption};
 ghost use Rattle.routine.specs.Output.{Says, Prints};
 
 use lists::parts::part;
-use lists::reads::same;
+use lists::question::Question;
 use lists::stores::store;
 use page::number::put_stored;
 use routines::routine::routine;
 use stdio::input::{bytes_read, read_input};
+use stdio::output::print_answer;
 use text::decimal::put_decimal;
 
 // Whether a text says number k.
@@ -19,19 +20,19 @@ fn says(s: &[u8], k: u16) -> bool
     let mut digits = [0u8; 6];
     let n = put_decimal(&mut digits, 0, k);
     store(&mut digits, n, b'\n');
-    same(s, part(&digits, 0, n)) | same(s, part(&digits, 0, n + 1))
+    (s == part(&digits, 0, n)) | (s == part(&digits, 0, n + 1))
 }
 
-// The number that a text says; 276 if it says none below that.
-fn number_in(s: &[u8]) -> u16
-    ensures { (result ≤ 276) × (result < 276 → Says s.now result) × ((k : ℕ) → k < result → Says s.now k → ⊥) }
+// The number below 276 that a text says.
+fn number_in(s: &[u8]) -> Option<u16>
+    ensures { MatchOption result ((k : ℕ) → k < 276 → Says s.now k → ⊥) (λ k. (k < 276) × Says s.now k) }
 {
     for k in 0..276 {
         if says(s, k) {
-            return k;
+            return Some(k);
         }
     }
-    276
+    None
 }
 
 // What the program prints; answers how many bytes that is. The longest record has 405.
@@ -39,8 +40,10 @@ fn answer(s: &[u8], out: &mut [u8]) -> usize
     requires { 405 ≤ length out.old }
     ensures { Prints s.now (take result out.new) }
 {
-    let k = number_in(s) as usize;
-    let made = routine(k, out);
+    let made = match number_in(s) {
+        Some(k) => routine(k.into(), out),
+        None => Err(Question::Routine),
+    };
     put_stored(out, made)
 }
 
@@ -55,9 +58,5 @@ fn main(rt: HostRuntime) {
     );
     let mut out = [0u8; 405];
     let m = answer(part(&text, 0, n), &mut out);
-    if rt.write_all(part(&out, 0, m)).is_err() {
-        let _ = rt
-            .stderr()
-            .write_all(b"routine: standard output cannot be written\n");
-    }
+    let _ = print_answer(part(&out, 0, m), b"routine", &rt, &rt.stderr());
 }

@@ -1,6 +1,6 @@
 -- The seven lists of a listing as one thing: lent, left, or made; how much they have; questions 12 to 14; and what a call that fills them
 -- answers and leaves.
-use Rattle.std.specs.Prelude.{ℕ, zero, suc, ◌&&◌, List, ◌++◌, ◌≡◌, leb, length, take, drop}
+use Rattle.std.specs.Prelude.{ℕ, zero, suc, ◌&&◌, List, ◌++◌, ◌≡◌, ◌<◌, ◌^◌, leb, length, take, drop, get_or}
 use Rattle.lists.specs.Choice.{ask}
 use Rattle.lists.specs.Put.{put}
 use Rattle.rows.specs.declared.answer.Sizes.{Sizes}
@@ -23,6 +23,13 @@ pub record Lists : Type 0 where
 
 abbrev pub lists_of : (text ends kinds addresses marks places lines : List ℕ) → Lists
 lists_of x e k a m p l = record { text = x; ends = e; kinds = k; addresses = a; marks = m; places = p; lines = l }
+
+-- what the types of the lists say of their numbers
+pub record NumbersFit (l : Lists) : Type 0 where
+  pub ends : (i : ℕ) → get_or l.ends i 0 < 2 ^ 32
+  pub addresses : (i : ℕ) → get_or l.addresses i 0 < 2 ^ 64
+  pub places : (i : ℕ) → get_or l.places i 0 < 65536
+  pub lines : (i : ℕ) → get_or l.lines i 0 < 2 ^ 32
 
 -- "A number comes with all sizes zero"
 abbrev pub values_of : Result Sizes Question → Sizes

@@ -15,8 +15,9 @@ use Rattle.lists.specs.Put.{put}
 use Rattle.lists.specs.PutLaws.{put_cons, put_none}
 use Rattle.text.specs.Literal.{escape, escapes, closing}
 use Rattle.strings.specs.Called.{is_string}
-use Rattle.strings.specs.Reading.{guess_of, Spelt, Begins, Characters, Filled}
-use Rattle.strings.proofs.Spellings.{spelling_tells, spelling_some, no_end}
+use Rattle.std.specs.Prelude.{None}
+use Rattle.strings.specs.Reading.{guess_of, Begun, Spelt, Begins, Characters, Filled}
+use Rattle.strings.proofs.Spellings.{spelling_tells, no_end}
 
 -- ---- strings
 small : (b : ℕ) (s : List ℕ) → is_string (b ∷ s) ≡ true → (b < 0x80) × (is_string s ≡ true)
@@ -46,28 +47,24 @@ pub begins_none : (t : List ℕ) → Begins t 0 0
 unfolding escapes
 begins_none t = record { bytes = []; string = refl; count = refl; few = omega arith; within = omega arith; text = refl }
 
-module _ (t p : List ℕ) (n i b k : ℕ) (e : p ≡ drop i t) (c : Spelt p b k) (w : Begins t n i) where
+module _ (t p : List ℕ) (n i b k : ℕ) (e : p ≡ drop i t) (c : Begun p b k) (w : Begins t n i) where
   left_from_lem : p ≡ escape b ++ drop k p → t ≡ (escapes w.bytes ++ escape b) ++ drop (i + k) t
   left_from_lem q = w.text ∙ ap (λ (l : List ℕ). escapes w.bytes ++ l) (sym e ∙ q ∙ rw (e, drop-drop)) ∙ sym (append_assoc (escapes w.bytes) (escape b) (drop (i + k) t))
 
-  pub begins_more : n < 80 → (k ≡ 0 → ⊥) → Begins t (n + 1) (i + k)
-  begins_more l h =
-      let f = c.is h in
+  pub begins_more : n < 80 → Begins t (n + 1) (i + k)
+  begins_more l =
+      let f = c.is in
       record {
         bytes = w.bytes ++ (b ∷ []);
         string = string_more w.bytes b w.string f.0;
         count = rw length-append (omega (arith, w.count));
         few = omega arith;
-        within = omega (arith, c.min, ap length e, length-drop i t, w.min);
+        within = omega (arith, c.within, ap length e, length-drop i t, w.within);
         text = rw escapes_more (left_from_lem f.1);
       }
 
-  pub begins_last : k ≡ 0 → Characters t n i
-  begins_last z =
-      record {
-        begins = w;
-        last = λ _ x r l q. omega (arith, z, spelling_some x r l, (c.only x r l (e ∙ q)).1);
-      }
+pub begins_last : (t p : List ℕ) (n i : ℕ) → p ≡ drop i t → Spelt p None → Begins t n i → Characters t n i
+begins_last t p n i e c w = record { begins = w; last = λ _ x r l q. c x r l (e ∙ q) }
 
 pub begins_all : (t : List ℕ) (n i : ℕ) → 80 ≤ n → Begins t n i → Characters t n i
 begins_all t n i h w = record { begins = w; last = λ l. absurd (omega arith) }
@@ -84,11 +81,24 @@ pub record Filling (t : List ℕ) (n : ℕ) (out : List ℕ) (i k : ℕ) (l : Li
 pub filling_start : (t : List ℕ) (n : ℕ) (out : List ℕ) → Filling t n out 0 0 out
 filling_start t n out = record { within = omega arith; few = omega arith; long = refl; text = λ s r h q e. e; bytes = λ s r h q e. refl }
 
+-- where no character is left, no more were asked for
+pub filling_stop : (t p out l : List ℕ) (n i k : ℕ) → p ≡ drop i t → Spelt p None → Filling t n out i k l → k < n → Filled t n out l
+unfolding escapes
+filling_stop t p out l n i k e c w h =
+    record {
+      bytes = λ s r g q f.
+          let d : drop k s ≡ get_or s k 0 ∷ drop (suc k) s = drop-cons s k 0 (omega arith) in
+          let b : get_or s k 0 < 0x80 = (small (get_or s k 0) (drop (suc k) s) (ap is_string (sym d) ∙ string_drop k s g)).0 in
+          absurd
+          (c (get_or s k 0) (escapes (drop (suc k) s) ++ r) b
+          (e ∙ w.text s r g q f ∙ ap (λ (z : List ℕ). escapes z ++ r) d ∙ append_assoc (escape (get_or s k 0)) (escapes (drop (suc k) s)) r));
+    }
+
 pub filling_end : (t : List ℕ) (n : ℕ) (out : List ℕ) (i k : ℕ) (l : List ℕ) → Filling t n out i k l → n ≤ k → Filled t n out l
 filling_end t n out i k l w h =
     record { bytes = λ s r g q e. rw (drop_of_length-le s {i = k} (omega arith), put_none) at (w.bytes s r g q e) }
 
-module _ (t p out l l' : List ℕ) (n i k b m : ℕ) (e : p ≡ drop i t) (c : Spelt p b m) (d : l' ≡ set l k b) (w : Filling t n out i k l) (h : k < n) where
+module _ (t p out l l' : List ℕ) (n i k b m : ℕ) (e : p ≡ drop i t) (c : Begun p b m) (d : l' ≡ set l k b) (w : Filling t n out i k l) (h : k < n) where
   module _ (s r : List ℕ) (g : is_string s ≡ true) (q : length s ≡ n) (f : t ≡ escapes s ++ r) where
     abbrev x : ℕ
     x = get_or s k 0
@@ -118,7 +128,7 @@ module _ (t p out l l' : List ℕ) (n i k b m : ℕ) (e : p ≡ drop i t) (c : S
   pub filling_more : Filling t n out (i + m) (k + 1) l'
   filling_more =
       record {
-        within = omega (arith, c.min, ap length e, length-drop i t, w.min);
+        within = omega (arith, c.within, ap length e, length-drop i t, w.within);
         few = omega arith;
         long = ap length d ∙ length-set l k b ∙ w.long;
         text = next_text;

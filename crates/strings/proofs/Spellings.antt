@@ -1,6 +1,6 @@
 -- The spelling of a byte below 0x80 tells the byte, whatever stands behind it, and does not begin as the end of a literal does.
 -- One test, computed, of all such bytes. So a text begins with one spelling at most.
-use mathlib.Core.Path.{◌≡◌, refl, sym, ap, ◌∙◌}
+use mathlib.Core.Path.{◌≡◌, sym, ap, ◌∙◌}
 use mathlib.Core.Bool.{Bool, true, false, ◌&&◌, ◌||◌, not}
 use mathlib.Core.List.{List, [], ◌∷◌, ◌++◌}
 use Prim.Native.Nat.{ℕ, ◌≤◌, ◌<◌}
@@ -15,7 +15,7 @@ use Rattle.lists.specs.Put.{put}
 use Rattle.lists.specs.PutLaws.{put_fits}
 use Rattle.text.specs.Number.{digit, hex_of, hex_text}
 use Rattle.text.specs.Literal.{unseen, code_text, escape, closing}
-use Rattle.lists.proofs.Tests.{never}
+use Rattle.std.specs.Prelude.{Some, None}
 use Rattle.strings.specs.Reading.{guess_of, Spelt}
 
 -- a byte that an end of a literal begins with
@@ -59,29 +59,25 @@ module _ (t : List ℕ) (b : ℕ) (g : b ≡ guess_of t) where
   read_off : (x : ℕ) (r : List ℕ) → x < 0x80 → t ≡ escape x ++ r → b ≡ x
   read_off x r h e = g ∙ ap guess_of e ∙ spelling_tells x r h
 
-  none : ((x : ℕ) (r : List ℕ) → x < 0x80 → t ≡ escape x ++ r → ⊥) → Spelt t 0 0
-  none f = record { within = omega arith; is = λ h. absurd (h refl); only = λ x r h e. absurd (f x r h e) }
+  pub too_large : 0x80 ≤ b → Spelt t None
+  too_large l x r h e = let q = read_off x r h e in omega arith
 
-  pub too_large : 0x80 ≤ b → Spelt t 0 0
-  too_large l = none (λ x r h e. let q = read_off x r h e in omega arith)
-
-  module _ (n : ℕ) (w p q : List ℕ) (same : Bool) (k : n ≡ length (escape b)) (few : n ≤ 6) (s : w ≡ put 0 (escape b) (0 ∷ 0 ∷ 0 ∷ 0 ∷ 0 ∷ 0 ∷ []))
-      (f : p ≡ take n t) (d : q ≡ take n w) (c : (same ≡ true → p ≡ q) × (p ≡ q → same ≡ true)) where
+  module _ (n : ℕ) (w p q : List ℕ) (k : n ≡ length (escape b)) (few : n ≤ 6) (s : w ≡ put 0 (escape b) (0 ∷ 0 ∷ 0 ∷ 0 ∷ 0 ∷ 0 ∷ []))
+      (f : p ≡ take n t) (d : q ≡ take n w) where
     stored : q ≡ escape b
     stored = d ∙ rw (s, put_fits 0 (escape b) (0 ∷ 0 ∷ 0 ∷ 0 ∷ 0 ∷ 0 ∷ []) (omega arith), k, take-append_seam)
 
-    pub found : b < 0x80 → same ≡ true → Spelt t b n
+    pub found : b < 0x80 → p ≡ q → Spelt t (Some (record { byte = b; size = n }))
     found l y =
-        let e : take n t ≡ escape b = sym f ∙ c.0 y ∙ stored in
+        let e : take n t ≡ escape b = sym f ∙ y ∙ stored in
         record {
           within = omega (arith, length-take n t, ap length e);
-          is = λ _. (l, sym (take-append-drop n t) ∙ rw e);
+          is = (l, sym (take-append-drop n t) ∙ rw e);
           only = λ x r h z. let v = read_off x r h z in (v, k ∙ ap (λ (m : ℕ). length (escape m)) v);
         }
 
-    pub other : same ≡ false → Spelt t 0 0
-    other y =
-        none (λ x r h z.
+    pub other : (p ≡ q → ⊥) → Spelt t None
+    other y x r h z =
         let v = read_off x r h z in
         let e : p ≡ escape b = f ∙ rw (z, k, v, take-append_seam) in
-        never (sym y ∙ c.1 (e ∙ sym stored)))
+        y (e ∙ sym stored)

@@ -1,34 +1,22 @@
 -- The way back from a literal token to its string (#103): what the call answers and leaves. The literal of a string is text/specs/Literal.
-use Rattle.std.specs.Prelude.{ℕ, zero, suc, ◌≤◌, Bool, true, false, List, ◌≡◌, ltb, leb, length, take}
+use Rattle.std.specs.Prelude.{ℕ, ◌≤◌, Bool, true, false, List, ◌≡◌, ltb, leb, length, take, Ok, Err}
+use Rattle.std.specs.declared.result.Result.{Result}
 use Rattle.lists.specs.Choice.{ask}
 use Rattle.lists.specs.Every.{every}
+use Rattle.lists.specs.Question.{number_of, Answers}
+use Rattle.lists.specs.declared.question.Question.{Question}
 use Rattle.text.specs.Literal.{literal_text}
 use Rattle.rows.specs.Lists.{left}
-use Rattle.strings.specs.declared.reading.Back.{Back}
-use Rattle.strings.specs.declared.reading.Back.TheVariants.{String, No}
+use Rattle.strings.specs.declared.reading.Values.{Values}
 
 -- ---- the answer
-abbrev pub number_of : Back → ℕ
-number_of (String n wide cut) = 0
-number_of (No n) = n
-
--- how many bytes the string has, whether it was wide, whether it was cut
-pub record Values : Type 0 where
-  pub count : ℕ
-  pub wide : Bool
-  pub cut : Bool
-
 -- "other answers beside a number 0 or no"
 abbrev pub no_values : Values
 no_values = record { count = 0; wide = false; cut = false }
 
-abbrev pub values_of : Back → Values
-values_of (String n wide cut) = record { count = n; wide = wide; cut = cut }
-values_of (No n) = no_values
-
-abbrev pub answer_for : Values → ℕ → Back
-answer_for v zero = String v.count v.wide v.cut
-answer_for v (suc n) = No (suc n)
+abbrev pub values_of : Result Values Question → Values
+values_of (Ok v) = v
+values_of (Err q) = no_values
 
 -- ---- literals
 -- "string bytes below 0x80"
@@ -53,9 +41,9 @@ values_for wide s = record { count = length (kept s); wide = wide; cut = ltb 80 
 abbrev pub room_no : List ℕ → List ℕ → ℕ
 room_no s out = ask 12 (leb (length (kept s)) (length out)) 0
 
-pub record Returns (kind : ℕ) (t out out' : List ℕ) (r : Back) : Type 0 where
+pub record Returns (kind : ℕ) (t out out' : List ℕ) (r : Result Values Question) : Type 0 where
   -- "the way back from a literal token to the string's bytes and whether it was wide"
-  pub answer : (wide : Bool) (s : List ℕ) → IsLiteral kind t wide s → r ≡ answer_for (values_for wide s) (room_no s out)
+  pub answer : (wide : Bool) (s : List ℕ) → IsLiteral kind t wide s → Answers (room_no s out) (values_for wide s) r
   pub bytes : (wide : Bool) (s : List ℕ) → IsLiteral kind t wide s → out' ≡ left (room_no s out) (kept s) out
   -- "17 if the token is not of kind 5 or no such literal": what is not refused with 17 is the literal of a string
   pub others : (number_of r ≡ 17 → ⊥) → (wide : Bool) × ((s : List ℕ) × IsLiteral kind t wide s)

@@ -1,10 +1,11 @@
 -- The reader of literals: what its parts find in a text. It describes the code, and is not what a caller must believe: what reading promises
 -- is strings/specs/Called, in terms of text/specs/Literal alone.
-use Rattle.std.specs.Prelude.{ℕ, ◌+◌, ◌*◌, ◌/◌, ◌%◌, ◌≤◌, ◌<◌, Bool, true, List, ◌++◌, ◌≡◌, eqb, ltb, length, drop, get_or}
+use Rattle.std.specs.Prelude.{ℕ, ◌+◌, ◌*◌, ◌/◌, ◌%◌, ◌≤◌, ◌<◌, Bool, true, List, ◌++◌, ◌≡◌, eqb, ltb, length, drop, get_or, Option, Some, None}
 use Rattle.lists.specs.Choice.{pick}
 use Rattle.lists.specs.Put.{put}
 use Rattle.text.specs.Literal.{escape, escapes, opening, closing, literal_text}
 use Rattle.strings.specs.Called.{is_string, kept}
+use Rattle.strings.specs.declared.character.Character.{Character}
 use Rattle.strings.specs.declared.literal.Literal.{Literal}
 
 -- ---- the one byte that a text's first character can be
@@ -20,17 +21,27 @@ escaped_of c a b = pick (eqb c 48) 0 (pick (eqb c 116) 9 (pick (eqb c 114) 13 (p
 abbrev pub guess_of : List ℕ → ℕ
 guess_of t = pick (eqb (get_or t 0 0) 92) (escaped_of (get_or t 1 0) (get_or t 3 0) (get_or t 4 0)) (get_or t 0 0)
 
--- the text t begins with the spelling of b, of n bytes; n is 0 if it begins with no spelling
-pub record Spelt (t : List ℕ) (b n : ℕ) : Type 0 where
+-- the text t begins with the spelling of b, of n bytes
+pub record Begun (t : List ℕ) (b n : ℕ) : Type 0 where
   pub within : n ≤ length t
-  pub is : (n ≡ 0 → ⊥) → (b < 0x80) × (t ≡ escape b ++ drop n t)
+  pub is : (b < 0x80) × (t ≡ escape b ++ drop n t)
   pub only : (x : ℕ) (r : List ℕ) → x < 0x80 → t ≡ escape x ++ r → (b ≡ x) × (n ≡ length (escape x))
 
+-- the character that a text begins with, or none if it begins with no spelling
+abbrev pub Spelt : List ℕ → Option Character → Type 0
+Spelt t (Some c) = Begun t c.byte c.size
+Spelt t None = (x : ℕ) (r : List ℕ) → x < 0x80 → t ≡ escape x ++ r → ⊥
+
 -- ---- the parts of a literal
--- an opening of n bytes; n is 0 if there is none
-pub record Opens (t : List ℕ) (n : ℕ) : Type 0 where
-  pub is : (n ≡ 0 → ⊥) → t ≡ opening (eqb n 2) ++ drop n t
+-- an opening of n bytes
+pub record Opened (t : List ℕ) (n : ℕ) : Type 0 where
+  pub is : t ≡ opening (eqb n 2) ++ drop n t
   pub only : (wide : Bool) (r : List ℕ) → t ≡ opening wide ++ r → n ≡ pick wide 2 1
+
+-- or none
+abbrev pub Opens : List ℕ → Option ℕ → Type 0
+Opens t (Some n) = Opened t n
+Opens t None = (wide : Bool) (r : List ℕ) → t ≡ opening wide ++ r → ⊥
 
 -- the text t begins with n characters of i bytes, 80 at most
 pub record Begins (t : List ℕ) (n i : ℕ) : Type 0 where
@@ -46,24 +57,33 @@ pub record Characters (t : List ℕ) (n i : ℕ) : Type 0 where
   pub begins : Begins t n i
   pub last : n < 80 → (x : ℕ) (r : List ℕ) → x < 0x80 → drop i t ≡ escape x ++ r → ⊥
 
--- the end of a literal of n characters; r is 0 if the text is none, 2 if the literal was cut
-pub record Ends (t : List ℕ) (n r : ℕ) : Type 0 where
-  pub is : (r ≡ 0 → ⊥) → t ≡ closing (eqb r 2)
-  pub full : r ≡ 2 → n ≡ 80
-  pub only : (cut : Bool) → (cut ≡ true → n ≡ 80) → t ≡ closing cut → r ≡ pick cut 2 1
+-- the end of a literal of n characters, and whether it was cut
+pub record Ended (t : List ℕ) (n : ℕ) (b : Bool) : Type 0 where
+  pub is : t ≡ closing b
+  pub full : b ≡ true → n ≡ 80
+  pub only : (cut : Bool) → t ≡ closing cut → b ≡ cut
+
+-- or none
+abbrev pub Ends : List ℕ → ℕ → Option Bool → Type 0
+Ends t n (Some b) = Ended t n b
+Ends t n None = (cut : Bool) → (cut ≡ true → n ≡ 80) → t ≡ closing cut → ⊥
 
 -- ---- the two passes
 -- what the text of a string's literal is found to be
 pub record Found (t : List ℕ) (l : Literal) (wide : Bool) (s : List ℕ) : Type 0 where
-  pub ok : l.ok ≡ true
   pub is_wide : l.wide ≡ wide
   pub is_cut : l.cut ≡ ltb 80 (length s)
   pub count : l.count ≡ length (kept s)
   pub text : drop l.start t ≡ escapes (kept s) ++ closing (ltb 80 (length s))
 
-pub record Measured (t : List ℕ) (l : Literal) : Type 0 where
-  pub is : l.ok ≡ true → (s : List ℕ) × ((is_string s ≡ true) × (literal_text l.wide s ≡ t))
+pub record IsMeasured (t : List ℕ) (l : Literal) : Type 0 where
+  pub is : (s : List ℕ) × ((is_string s ≡ true) × (literal_text l.wide s ≡ t))
   pub only : (wide : Bool) (s : List ℕ) → is_string s ≡ true → literal_text wide s ≡ t → Found t l wide s
+
+-- or no string's literal
+abbrev pub Measured : List ℕ → Option Literal → Type 0
+Measured t (Some l) = IsMeasured t l
+Measured t None = (wide : Bool) (s : List ℕ) → is_string s ≡ true → literal_text wide s ≡ t → ⊥
 
 pub record Filled (t : List ℕ) (n : ℕ) (out out' : List ℕ) : Type 0 where
   pub bytes : (s r : List ℕ) → is_string s ≡ true → length s ≡ n → t ≡ escapes s ++ r → out' ≡ put 0 s out

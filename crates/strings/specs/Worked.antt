@@ -1,13 +1,14 @@
 -- Worked examples of the way back: tokens that are the literal of a string, and the answers that are right for them.
 -- Each is computed from the definitions.
-use Rattle.std.specs.Prelude.{◌≡◌, refl, true, false, List, [], ◌∷◌, ◌++◌, ℕ, replicate}
+use Rattle.std.specs.Prelude.{◌≡◌, refl, true, false, List, [], ◌∷◌, ◌++◌, ℕ, replicate, Ok, Err}
+use Rattle.lists.specs.Question.{Answers}
+use Rattle.lists.specs.declared.question.Question.TheVariants.{TextRoom}
 use Rattle.lists.specs.Ascii.{ascii}
 use Rattle.text.specs.Number.{digit, hex_of, hex_text}
 use Rattle.text.specs.Literal.{unseen, code_text, escape, escapes, opening, closing, literal_text}
 use Rattle.rows.specs.Lists.{left}
-use Rattle.strings.specs.Called.{IsLiteral, kept, values_for, room_no, answer_for}
+use Rattle.strings.specs.Called.{IsLiteral, kept, values_for, room_no}
 use Rattle.strings.specs.Reading.{guess_of}
-use Rattle.strings.specs.declared.reading.Back.TheVariants.{String, No}
 
 -- `"A\\B\r\0"`, and the same of a wide string
 abbrev bytes : List ℕ
@@ -22,10 +23,10 @@ unfolding literal_text opening closing escapes escape unseen
 wide = record { token = refl; string = refl; text = refl }
 
 -- five bytes: exact fit passes, one less is refused
-fits : answer_for (values_for true bytes) (room_no bytes (replicate 5 7)) ≡ String 5 true false
-fits = refl
+fits : Answers (room_no bytes (replicate 5 7)) (values_for true bytes) (Ok (record { count = 5; wide = true; cut = false }))
+fits = (refl, refl)
 
-short : answer_for (values_for true bytes) (room_no bytes (replicate 4 7)) ≡ No 12
+short : Answers (room_no bytes (replicate 4 7)) (values_for true bytes) (Err TextRoom)
 short = refl
 
 -- entries past the bytes are unchanged
@@ -33,11 +34,11 @@ behind : left (room_no bytes (replicate 7 7)) (kept bytes) (replicate 7 7) ≡ b
 behind = refl
 
 -- 80 characters are whole; 81 are cut, and give 80
-exact : answer_for (values_for false (replicate 80 97)) (room_no (replicate 80 97) (replicate 80 7)) ≡ String 80 false false
-exact = refl
+exact : Answers (room_no (replicate 80 97) (replicate 80 7)) (values_for false (replicate 80 97)) (Ok (record { count = 80; wide = false; cut = false }))
+exact = (refl, refl)
 
-longer : answer_for (values_for false (replicate 81 97)) (room_no (replicate 81 97) (replicate 80 7)) ≡ String 80 false true
-longer = refl
+longer : Answers (room_no (replicate 81 97) (replicate 80 7)) (values_for false (replicate 81 97)) (Ok (record { count = 80; wide = false; cut = true }))
+longer = (refl, refl)
 
 -- what `\u{0}`, `\u{0d}` and `\u{41}` read as has another spelling
 zero_spelt : escape (guess_of (ascii "\\u{0}")) ≡ ascii "\\0"

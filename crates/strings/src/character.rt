@@ -4,10 +4,10 @@ ghost use Rattle.std.specs.Prelude.{◌≡◌, true, ◌<◌};
 ghost use Rattle.strings.specs.Reading.{hex_value, code_of, escaped_of, guess_of, Spelt};
 
 use lists::parts::part;
-use lists::reads::{same, u8_at};
+use lists::reads::u8_at;
 use text::literal::put_escape;
 
-// A byte, and how many bytes its spelling has: 0 if there is no character.
+// A byte, and how many bytes its spelling has.
 #[derive(Clone, Copy)]
 pub struct Character {
     pub byte: u8,
@@ -56,17 +56,17 @@ fn guess(t: &[u8]) -> u8
     c
 }
 
-// The first character of a text.
-pub fn first(t: &[u8]) -> Character
-    ensures { Spelt t.now result.byte result.size }
+// The first character of a text, if it begins with one.
+pub fn first(t: &[u8]) -> Option<Character>
+    ensures { Spelt t.now result }
 {
     let b = guess(t);
     let mut w = [0u8; 6];
     let n = put_escape(&mut w, b);
     if b < 0x80 {
-        if same(part(t, 0, n), part(&w, 0, n)) {
-            return Character { byte: b, size: n };
+        if part(t, 0, n) == part(&w, 0, n) {
+            return Some(Character { byte: b, size: n });
         }
     }
-    Character { byte: 0, size: 0 }
+    None
 }

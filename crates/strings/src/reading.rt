@@ -5,13 +5,15 @@ ghost use Rattle.strings.specs.Reading.{Filled};
 use crate::character::first;
 use crate::literal::measure;
 use lists::parts::from;
+use lists::question::Question;
 use lists::stores::store;
 
-// How many bytes the string has, whether it was wide, whether it was cut; or the number of the question that got a no.
+// How many bytes a string has, whether it was wide, whether it was cut.
 #[derive(Clone, Copy)]
-pub enum Back {
-    String(usize, bool, bool),
-    No(u8),
+pub struct Values {
+    pub count: usize,
+    pub wide: bool,
+    pub cut: bool,
 }
 
 // The bytes of the n characters that a text begins with.
@@ -20,24 +22,30 @@ fn fill(t: &[u8], n: usize, out: &mut [u8])
 {
     let mut i: usize = 0;
     for k in 0..n {
-        let c = first(from(t, i));
+        let Some(c) = first(from(t, i)) else {
+            return;
+        };
         store(out, k, c.byte);
         i += c.size;
     }
 }
 
-// The string of a literal token, from the start of `out` on. What is no literal that a listing writes is 17, a list that is too short 12; then
-// nothing is changed.
-pub fn read_literal(kind: u8, text: &[u8], out: &mut [u8]) -> Back
+// The string of a literal token, from the start of `out` on. What is no literal that a listing writes is Question::Literal, a list that is too
+// short Question::TextRoom; then nothing is changed.
+pub fn read_literal(kind: u8, text: &[u8], out: &mut [u8]) -> Result<Values, Question>
     ensures { Returns kind text.now out.old out.new result }
 {
-    let l = measure(text);
-    if (kind != 5) | !l.ok {
-        return Back::No(17);
+    if kind != 5 {
+        return Err(Question::Literal);
     }
+    let l = measure(text).ok_or(Question::Literal)?;
     if out.len() < l.count {
-        return Back::No(12);
+        return Err(Question::TextRoom);
     }
     fill(from(text, l.start), l.count, out);
-    Back::String(l.count, l.wide, l.cut)
+    Ok(Values {
+        count: l.count,
+        wide: l.wide,
+        cut: l.cut,
+    })
 }

@@ -1,6 +1,6 @@
 -- `number_in` meets its contract.
 -- The invariant: the text says no number that was tried.
-use Prim.Native.Nat.{ℕ, ◌-◌, ◌≤◌, ◌<◌}
+use Prim.Native.Nat.{ℕ, ◌≤◌, ◌<◌}
 use Rattle.routine.specs.Output.{Says}
 use Rattle.routine.proofs.number_in.Given as goal
 

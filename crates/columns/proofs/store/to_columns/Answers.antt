@@ -6,5 +6,5 @@ use Rattle.columns.proofs.store.to_columns.Goals as goal
 
 pub returns : goal.returns
 returns c =
-    let e = rw c.read_header.ensures at c.size.ensures.0 in
+    let e = rw c.read_header.ensures at c.from.ensures in
     c.store.ensures bodies body_bytes e refl

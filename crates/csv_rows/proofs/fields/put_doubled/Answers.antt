@@ -4,10 +4,10 @@ use Rattle.csv_rows.proofs.Going.{go_turn, go_end, text_more, text_none, text_al
 use Rattle.csv_rows.proofs.fields.put_doubled.Goals as goal
 
 pub put_char-p-requires : goal.put_char-p-requires
-put_char-p-requires c = text_room _ c.loop-i.invariant c.loop-i-test.true c.requires
+put_char-p-requires c = text_room _ c.loop-b.invariant c.loop-b-test.true c.requires
 
-pub loop-i-preserved : goal.loop-i-preserved
-loop-i-preserved c = go_turn c.loop-i.invariant (text_more _ _ c.loop-i-test.true) c.put_char-p.ensures
+pub loop-b-preserved : goal.loop-b-preserved
+loop-b-preserved c = go_turn c.loop-b.invariant (text_more _ _ c.loop-b-test.true) c.put_char-p.ensures
 
 pub returns : goal.returns
-returns c = rw text_all at (go_end c.loop-i.invariant (text_none _ _ c.loop-i-test.false))
+returns c = rw text_all at (go_end c.loop-b.invariant (text_none _ _ c.loop-b-test.false))

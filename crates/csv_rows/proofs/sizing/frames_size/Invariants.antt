@@ -1,6 +1,5 @@
 -- The size of all rows besides their tokens: `frames_size` meets its contract.
 -- One more at each turn.
-use Prim.Native.Nat.{◌-◌}
 use Rattle.csv_rows.proofs.Sums.{Frames}
 use Rattle.csv_rows.proofs.sizing.frames_size.Given as goal
 

@@ -39,21 +39,21 @@ pub plan-requires : goal.plan-requires
 plan-requires c = let h = c.args.h in
     let s = c.args.rec.now in
     let d =
-    filled (edge_rows h s) _ _ _ (2 * c.size.result) (2 * h.edges) (edges_length h s) c.requires.room (omega (arith, c.size.ensures))
+    filled (edge_rows h s) _ _ _ (2 * c.from.result) (2 * h.edges) (edges_length h s) c.requires.room (omega (arith, c.from.ensures))
     c.edge_rows.ensures c.part-e.ensures.0 in
-    let t = array _ _ _ _ c.targets_at.ensures.0 c.from-2.ensures.0 in
-    let held = plans h s _ _ _ _ c.requires.rows d c.from.ensures.0 t c.args.from c.args.to c.requires.asked in record { to_le_count = held.0; in_turn = held.1.0; count_in_bounds = held.1.1 }
+    let t = array _ _ _ _ c.targets_at.ensures.0 c.from-4.ensures.0 in
+    let held = plans h s _ _ _ _ c.requires.rows d c.from-3.ensures.0 t c.args.from c.args.to c.requires.asked in record { to_le_count = held.0; in_turn = held.1.0; count_in_bounds = held.1.1 }
 
 pub returns : goal.returns
 unfolding record_plan
 returns c = let h = c.args.h in
     let s = c.args.rec.now in
     let d =
-    filled (edge_rows h s) _ _ _ (2 * c.size.result) (2 * h.edges) (edges_length h s) c.requires.room (omega (arith, c.size.ensures))
+    filled (edge_rows h s) _ _ _ (2 * c.from.result) (2 * h.edges) (edges_length h s) c.requires.room (omega (arith, c.from.ensures))
     c.edge_rows.ensures c.part-e.ensures.0 in
-    let t = array _ _ _ _ c.targets_at.ensures.0 c.from-2.ensures.0 in
+    let t = array _ _ _ _ c.targets_at.ensures.0 c.from-4.ensures.0 in
     let small = limits_small h c.requires.asked.limits in
     let v =
-    filled (shown_rows h s) _ _ _ _ h.instructions (shown_length h s) (omega (arith, small.instructions)) c.size-2.ensures.0
+    filled (shown_rows h s) _ _ _ _ h.instructions (shown_length h s) (omega (arith, small.instructions)) c.from-2.ensures
     c.shown_rows.ensures c.part-s.ensures.0 in
-    let st = c.from.ensures.0 in record { lines = same _ _ _ _ _ _ _ _ _ _ _ _ _ _ _ _ _ c.plan.ensures.lines c.requires.rows d v st t; looks = looks-are h s _ _ _ _ c.requires.rows d st t c.args.from c.args.to c.requires.asked _ c.plan.ensures.looks }
+    let st = c.from-3.ensures.0 in record { lines = same _ _ _ _ _ _ _ _ _ _ _ _ _ _ _ _ _ c.plan.ensures.lines c.requires.rows d v st t; looks = looks-are h s _ _ _ _ c.requires.rows d st t c.args.from c.args.to c.requires.asked _ c.plan.ensures.looks }

@@ -2,47 +2,41 @@
 -- The invariant: the running indexes, and to store the rows from here on is to store all of them.
 use mathlib.Core.Path.{refl}
 use native.Mathlib.Omega.{arith}
-use borrow.Author.Rules.{rules}
-use Rattle.flow.specs.Rows.{block_row, block_rows}
+use Rattle.flow.specs.Rows.{block_row}
 use Rattle.record.specs.Blocks.{first_instruction, first_edge}
 use Rattle.record.proofs.Running.{instruction_more, edge_more}
 use Rattle.flow.proofs.Totals.{block_has, edges_fit}
-use Rattle.flow.proofs.Storing.{left_all, left_step, left_done}
+use Rattle.flow.proofs.Storing.{left_all, left_step}
 use Rattle.flow.proofs.Row.{array, row_stored}
 use Rattle.flow.proofs.rows.block_rows.Goals as goal
 
 pub loop-k-init : goal.loop-k-init
 unfolding first_instruction first_edge
-loop-k-init c = (search rules, array _ _ _ _ c.marks_at.ensures.0 c.from-marks.ensures.0, refl, refl, left_all _ _ _)
+loop-k-init c = (array _ _ _ _ c.marks_at.ensures.0 c.from-marks.ensures.0, refl, refl, left_all _ _ _)
 
 pub put_ending-requires : goal.put_ending-requires
 put_ending-requires c =
     let v = c.loop-k.invariant in
-    (c.rises_in-rises.ensures, block_has _ _ c.requires _ c.loop-k-test.true _ v.1 _ _ (omega arith) v.2 c.instructions_in-n.ensures.0)
+    (block_has _ _ c.requires _ c.loop-k-test.true _ v.0 _ _ (omega arith) v.1 c.instructions_in-n.ensures.0)
 
 pub overflow_add-first : goal.overflow_add-first
 overflow_add-first c =
     let v = c.loop-k.invariant in
-    omega (arith, (block_has _ _ c.requires _ c.loop-k-test.true _ v.1 _ _ (omega arith) v.2 c.instructions_in-n.ensures.0).fits)
+    omega (arith, (block_has _ _ c.requires _ c.loop-k-test.true _ v.0 _ _ (omega arith) v.1 c.instructions_in-n.ensures.0).fits)
 
 pub overflow_add-edge : goal.overflow_add-edge
 overflow_add-edge c =
     let v = c.loop-k.invariant in
-    omega (arith, edges_fit _ _ c.requires _ c.loop-k-test.true _ v.1 _ _ (omega arith) v.3 c.edges_in-m.ensures.0)
+    omega (arith, edges_fit _ _ c.requires _ c.loop-k-test.true _ v.0 _ _ (omega arith) v.2 c.edges_in-m.ensures.0)
 
 pub loop-k-preserved : goal.loop-k-preserved
 unfolding block_row
 loop-k-preserved c =
     let v = c.loop-k.invariant in
     let a = c.args in (
-      search rules,
-      v.1,
+      v.0,
       rw instruction_more (omega arith),
       rw edge_more (omega arith),
-      left_step v.4 c.loop-k-test.true (omega arith)
-          (row_stored a.h a.rec.now _ _ c.loop-k.out _ _ _ _ _ _ _ v.1 v.2 v.3 c.instructions_in-n.ensures.0 c.edges_in-m.ensures.0 c.size.ensures.0 c.put_four.ensures c.put_ending.ensures),
+      left_step v.3 c.loop-k-test.true (omega arith)
+          (row_stored a.h a.rec.now _ _ c.loop-k.out _ _ _ _ _ _ _ v.0 v.1 v.2 c.instructions_in-n.ensures.0 c.edges_in-m.ensures.0 c.from.ensures c.put_four.ensures c.put_ending.ensures),
     )
-
-pub returns : goal.returns
-unfolding block_rows
-returns c = left_done c.loop-k.invariant.4 c.loop-k-test.false

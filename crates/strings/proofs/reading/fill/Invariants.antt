@@ -1,6 +1,5 @@
 -- `reading::fill` meets its contract.
 -- The invariant `Filling`: what is left of the characters is what is left to store.
-use Prim.Native.Nat.{◌-◌}
 use Rattle.strings.proofs.Characters.{Filling}
 use Rattle.strings.proofs.reading.fill.Given as goal
 
