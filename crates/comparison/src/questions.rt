@@ -11,6 +11,6 @@ pub extern "C" fn record_first_no(bytes: &[u8], from: usize, to: usize) -> u8
 {
     match record(bytes, from, to) {
         Ok(_) => 0,
-        Err(q) => n,
+        Err(q) => u8::from(q),
     }
 }
