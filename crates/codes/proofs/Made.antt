@@ -1,9 +1,8 @@
 -- The text of a code that is of the table, as the code reads it.
 -- Each is the definition with its tests decided.
-use Rattle.std.proofs.Common.{◌≡◌, ℕ, suc, ◌+◌, true, false, eqb, List, ◌++◌, length, get_or, take, drop, arith, length-append, ne_eqb}
+use Rattle.std.proofs.Common.{◌≡◌, ℕ, suc, ◌+◌, true, List, ◌++◌, take, drop, arith}
 use Rattle.lists.specs.Bytes.{u8_at}
-use Rattle.text.specs.Number.{hex_text, num_text}
-use Rattle.text.specs.Literal.{literal_text}
+use Rattle.text.specs.Number.{hex_text}
 use Rattle.codes.specs.Code.{what_in, size_in, place_in, word_at, text_in}
 
 module _ (t s : List ℕ) (c v : ℕ) where

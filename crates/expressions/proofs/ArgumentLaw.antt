@@ -13,7 +13,7 @@ use lib.ListN.{length, take, get_or}
 use Rattle.lists.specs.Choice.{pick, all_below}
 use Rattle.lists.specs.Below.{below_at}
 use Rattle.x86.specs.Registers.{full_register, register_name, qword}
-use Rattle.x86.specs.Conventions.{microsoft, system_v, argument_names, argument_registers, arguments_named, argument_count, written, any_written, up_to_last, with_written}
+use Rattle.x86.specs.Conventions.{microsoft, system_v, argument_registers, arguments_named, argument_count, written, any_written, up_to_last, with_written}
 use Rattle.x86.proofs.Written.{now_written, still_written, up_to}
 use Rattle.record.specs.Body.{operand_count, operand_kind, operand_register}
 use Rattle.expressions.specs.Arguments.{listed, register_arguments, written_after}

@@ -22,6 +22,8 @@ use Rattle.operand.specs.Memory.{register_token}
 use Rattle.operand.specs.Operand.{op_tokens}
 use Rattle.flow.specs.Silent.{is_skipped}
 use Rattle.expressions.specs.Condition.{body_of}
+use Rattle.expressions.specs.declared.arguments.PushPart.{PushPart}
+use Rattle.expressions.specs.declared.arguments.PushPart.TheVariants.{Call, Push, Neither}
 use Rattle.expressions.specs.Arguments.{comma_if, listed, register_arguments, is_unskipped, pushes_back, pushed, argument_tokens}
 
 -- a comma belongs to what it stands before
@@ -62,58 +64,64 @@ module _ (convention mask n : ℕ) (e : n ≡ argument_count convention mask) wh
   unfolding register_arguments
   all_left = let d : n - 0 ≡ n = omega arith in rw (d, e)
 
--- a call, a push or neither by its number: x a call, y a push, k skipped
-abbrev part_by : Bool → Bool → Bool → ℕ
-part_by x y k = pick (x && not k) 1 (pick (y && not k) 2 0)
+-- a call, a push or neither: x a call, y a push, k skipped
+abbrev part_by : Bool → Bool → Bool → PushPart
+part_by x y k = pick (x && not k) Call (pick (y && not k) Push Neither)
 
-call_kept : (x y k : Bool) → x ≡ true → not k ≡ true → 1 ≡ part_by x y k
+call_kept : (x y k : Bool) → x ≡ true → not k ≡ true → Call ≡ part_by x y k
 call_kept x y k e f = rw (e, f)
 
-push_kept : (x y k : Bool) → x ≡ false → (x || y) ≡ true → not k ≡ true → 2 ≡ part_by x y k
+push_kept : (x y k : Bool) → x ≡ false → (x || y) ≡ true → not k ≡ true → Push ≡ part_by x y k
 push_kept x y k e f g = rw (e, ap (λ (z : Bool). z || y) (sym e) ∙ f, g)
 
-skipped : (x y k : Bool) → not k ≡ false → 0 ≡ part_by x y k
+skipped : (x y k : Bool) → not k ≡ false → Neither ≡ part_by x y k
 skipped true true k f = rw f
 skipped true false k f = rw f
 skipped false true k f = rw f
 skipped false false k f = refl
 
-other : (x y k : Bool) → (x || y) ≡ false → 0 ≡ part_by x y k
-other true y k f = ap (λ (b : Bool). pick b 0 (part_by true y k)) f
+other : (x y k : Bool) → (x || y) ≡ false → Neither ≡ part_by x y k
+other true y k f = ap (λ (b : Bool). pick b Neither (part_by true y k)) f
 other false y k f = rw f
 
-call_of : (c p : Bool) (w : ℕ) → w ≡ pick c 1 (pick p 2 0) → eqb w 1 ≡ c
-call_of true p w e = rw e
-call_of false true w e = rw e
-call_of false false w e = rw e
+call_of : (c p : Bool) → Call ≡ pick c Call (pick p Push Neither) → c ≡ true
+call_of true p e = refl
+call_of false true e = cc
+call_of false false e = cc
 
-push_of : (c p : Bool) (w : ℕ) → w ≡ pick c 1 (pick p 2 0) → c ≡ false → eqb w 2 ≡ p
-push_of c true w e f = rw (e, f)
-push_of c false w e f = rw (e, f)
+push_of : (c p : Bool) → Push ≡ pick c Call (pick p Push Neither) → (c ≡ false) × (p ≡ true)
+push_of true p e = cc
+push_of false true e = (refl, refl)
+push_of false false e = cc
+
+neither_of : (c p : Bool) → Neither ≡ pick c Call (pick p Push Neither) → (c ≡ false) × (p ≡ false)
+neither_of true p e = cc
+neither_of false true e = cc
+neither_of false false e = (refl, refl)
 
 -- the same of instruction i, by its body and mnemonic as they were read
 module _ (bits frame : ℕ) (bodies b : List ℕ) (i m : ℕ) (p : b ≡ body_at bodies i) (q : m ≡ mnemonic_of b) where
-  abbrev part : ℕ
-  part = pick (is_unskipped bits frame bodies 23 i) 1 (pick (is_unskipped bits frame bodies 21 i) 2 0)
+  abbrev part : PushPart
+  part = pick (is_unskipped bits frame bodies 23 i) Call (pick (is_unskipped bits frame bodies 21 i) Push Neither)
 
   part_is : (k : Bool) → k ≡ is_skipped bits frame (body_at bodies i) → part_by (eqb m 23) (eqb m 21) k ≡ part
   unfolding is_unskipped
   part_is k r = rw (r, q, p)
 
-  pub part_other : (eqb m 23 || eqb m 21) ≡ false → 0 ≡ part
+  pub part_other : (eqb m 23 || eqb m 21) ≡ false → Neither ≡ part
   part_other f = other (eqb m 23) (eqb m 21) (is_skipped bits frame (body_at bodies i)) f ∙ part_is (is_skipped bits frame (body_at bodies i)) refl
 
   module _ (b' : List ℕ) (k : Bool) (e : b' ≡ body_at bodies i) (r : k ≡ is_skipped bits frame b') where
     kept_is : part_by (eqb m 23) (eqb m 21) k ≡ part
     kept_is = part_is k (r ∙ ap (is_skipped bits frame) e)
 
-    pub part_call : m ≡ 23 → not k ≡ true → 1 ≡ part
+    pub part_call : m ≡ 23 → not k ≡ true → Call ≡ part
     part_call f g = call_kept (eqb m 23) (eqb m 21) k (eq-eqb m 23 f) g ∙ kept_is
 
-    pub part_push : (m ≡ 23 → ⊥) → (eqb m 23 || eqb m 21) ≡ true → not k ≡ true → 2 ≡ part
+    pub part_push : (m ≡ 23 → ⊥) → (eqb m 23 || eqb m 21) ≡ true → not k ≡ true → Push ≡ part
     part_push f g l = push_kept (eqb m 23) (eqb m 21) k (ne_eqb m 23 f) g l ∙ kept_is
 
-    pub part_skipped : not k ≡ false → 0 ≡ part
+    pub part_skipped : not k ≡ false → Neither ≡ part
     part_skipped f = skipped (eqb m 23) (eqb m 21) k f ∙ kept_is
 
 -- the pushes before instruction k
@@ -133,35 +141,32 @@ module _ (bits frame : ℕ) (bodies : List ℕ) (first k : ℕ) where
     unfolding pushed pushes_back
     back_none l = let e : k - first ≡ 0 = omega arith in rw e
 
-    pub back_stop : (w : ℕ) → first < k → w ≡ pick (is_unskipped bits frame bodies 23 (k - 1)) 1 (pick (is_unskipped bits frame bodies 21 (k - 1)) 2 0) → w ≡ 1
-        → pushed h s comma (pushes_back bits frame bodies first (k - first)) ≡ []
+    -- what instruction k - 1 is to them
+    abbrev Is : PushPart → Type 0
+    Is w = w ≡ pick (is_unskipped bits frame bodies 23 (k - 1)) Call (pick (is_unskipped bits frame bodies 21 (k - 1)) Push Neither)
+
+    pub back_stop : first < k → Is Call → pushed h s comma (pushes_back bits frame bodies first (k - first)) ≡ []
     unfolding pushed
-    back_stop w l p q =
+    back_stop l p =
         let rest = pushes_back bits frame bodies first (k - 1 - first) in
-        let call : is_unskipped bits frame bodies 23 (k - 1) ≡ true = sym (call_of (is_unskipped bits frame bodies 23 (k - 1)) (is_unskipped bits frame bodies 21 (k - 1)) w p) ∙ eq-eqb w 1 q in
-        let none : pick (is_unskipped bits frame bodies 23 (k - 1)) [] (pick (is_unskipped bits frame bodies 21 (k - 1)) ((k - 1) ∷ rest) rest) ≡ [] = rw call in
+        let none : pick (is_unskipped bits frame bodies 23 (k - 1)) [] (pick (is_unskipped bits frame bodies 21 (k - 1)) ((k - 1) ∷ rest) rest) ≡ [] =
+        rw (call_of (is_unskipped bits frame bodies 23 (k - 1)) (is_unskipped bits frame bodies 21 (k - 1)) p) in
         ap (pushed h s comma) (back_step l ∙ none)
 
-pushed_front : (h : Header) (s : List ℕ) (comma kept : Bool) (j : ℕ) (is : List ℕ)
-    → pushed h s comma (pick kept (j ∷ is) is) ≡ pick kept (comma_if comma (op_tokens h s (body_of h s j) 0)) [] ++ pushed h s (comma || kept) is
-unfolding pushed
-pushed_front h s true true j is = refl
-pushed_front h s true false j is = refl
-pushed_front h s false true j is = refl
-pushed_front h s false false j is = refl
+    pub back_over : first < k → Is Neither → pushed h s comma (pushes_back bits frame bodies first (k - first)) ≡ pushed h s comma (pushes_back bits frame bodies first (k - 1 - first))
+    back_over l p =
+        let q = neither_of (is_unskipped bits frame bodies 23 (k - 1)) (is_unskipped bits frame bodies 21 (k - 1)) p in
+        ap (pushed h s comma) (back_step l ∙ rw (q.0, q.1))
 
-module _ (h : Header) (s : List ℕ) (bits frame : ℕ) (bodies : List ℕ) (e : bodies ≡ bodies_of h s) (first k : ℕ) (l : first < k) (comma : Bool) (w : ℕ)
-    (p : w ≡ pick (is_unskipped bits frame bodies 23 (k - 1)) 1 (pick (is_unskipped bits frame bodies 21 (k - 1)) 2 0)) (q : w ≡ 1 → ⊥) (b : List ℕ) (t : b ≡ body_at bodies (k - 1)) where
-  pub back_turn : pushed h s comma (pushes_back bits frame bodies first (k - first))
-      ≡ pick (eqb w 2) (comma_if comma (op_tokens h s b 0)) [] ++ pushed h s (comma || eqb w 2) (pushes_back bits frame bodies first (k - 1 - first))
-  back_turn =
-      let rest = pushes_back bits frame bodies first (k - 1 - first) in
-      let call : is_unskipped bits frame bodies 23 (k - 1) ≡ false = sym (call_of (is_unskipped bits frame bodies 23 (k - 1)) (is_unskipped bits frame bodies 21 (k - 1)) w p) ∙ ne_eqb w 1 q in
-      let push : is_unskipped bits frame bodies 21 (k - 1) ≡ eqb w 2 = sym (push_of (is_unskipped bits frame bodies 23 (k - 1)) (is_unskipped bits frame bodies 21 (k - 1)) w p call) in
-      let front : pick (is_unskipped bits frame bodies 23 (k - 1)) [] (pick (is_unskipped bits frame bodies 21 (k - 1)) ((k - 1) ∷ rest) rest) ≡ pick (eqb w 2) ((k - 1) ∷ rest) rest = rw (call, push) in
-      let body : body_of h s (k - 1) ≡ b = sym (t ∙ ap (λ (x : List ℕ). body_at x (k - 1)) e) in
-      ap (pushed h s comma) (back_step bits frame bodies first k l ∙ front) ∙ pushed_front h s comma (eqb w 2) (k - 1) rest
-      ∙ ap (λ (x : List ℕ). pick (eqb w 2) (comma_if comma (op_tokens h s x 0)) [] ++ pushed h s (comma || eqb w 2) rest) body
+    pub back_push : bodies ≡ bodies_of h s → first < k → Is Push → (b : List ℕ) → b ≡ body_at bodies (k - 1)
+        → pushed h s comma (pushes_back bits frame bodies first (k - first)) ≡ comma_if comma (op_tokens h s b 0) ++ pushed h s true (pushes_back bits frame bodies first (k - 1 - first))
+    unfolding pushed
+    back_push e l p b t =
+        let rest = pushes_back bits frame bodies first (k - 1 - first) in
+        let q = push_of (is_unskipped bits frame bodies 23 (k - 1)) (is_unskipped bits frame bodies 21 (k - 1)) p in
+        let front : pick (is_unskipped bits frame bodies 23 (k - 1)) [] (pick (is_unskipped bits frame bodies 21 (k - 1)) ((k - 1) ∷ rest) rest) ≡ (k - 1) ∷ rest = rw (q.0, q.1) in
+        let body : body_of h s (k - 1) ≡ b = sym (t ∙ ap (λ (x : List ℕ). body_at x (k - 1)) e) in
+        ap (pushed h s comma) (back_step l ∙ front) ∙ rw body (comma_front comma (op_tokens h s b 0) (pushed h s true rest))
 
 -- which arguments, by the bits
 module _ (h : Header) (s : List ℕ) (first i mask : ℕ) where

@@ -8,7 +8,7 @@ use borrow.Author.Tests.{lt-ltb, le-ltb, eq-eqb, ne_eqb}
 use Rattle.tokens.specs.Token.{Token, punct}
 use Rattle.tokens.specs.Words.{words, word_token}
 use Rattle.x86.specs.Mnemonics.{is_bt_or_imul}
-use Rattle.x86.specs.Conditions.{relation_after_cmp, relation_after_test, relation_after_other}
+use Rattle.x86.specs.Conditions.{relation_after_other}
 use Rattle.record.specs.declared.header.Header.{Header}
 use Rattle.std.specs.Prelude.{Option, Some, None}
 use Rattle.record.specs.Layout.{bodies_of}

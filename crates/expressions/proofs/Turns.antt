@@ -25,5 +25,9 @@ module _ {t s c : List ℕ} {all : List Token} where
     parts = p.parts ∙ ap (λ (l : List Token). p.front ++ l) e ∙ sym (append_assoc p.front a b);
   }
 
+  -- a turn that codes nothing
+  pub over : {c₁ : List ℕ} {ts b : List Token} → Sofar t s c c₁ all ts → ts ≡ b → Sofar t s c c₁ all b
+  over p e = record { front = p.front; coded = p.coded; parts = p.parts ∙ ap (λ (l : List Token). p.front ++ l) e }
+
   pub at_end : {c₁ : List ℕ} {ts : List Token} → Sofar t s c c₁ all ts → ts ≡ [] → Coded t s c c₁ all
   at_end p e = as_tokens (sym (p.parts ∙ ap (λ (l : List Token). p.front ++ l) e ∙ append-nil p.front)) p.coded

@@ -109,7 +109,14 @@ pub fn code_listed(
 }
 
 // The pushes since the last call that is not silent, the last one first.
-fn pushed_arguments(codes: &mut [u64], tables: Tables<'_>, rec: &[u8], h: Header, first: u16, i: u16)
+fn pushed_arguments(
+    codes: &mut [u64],
+    tables: Tables<'_>,
+    rec: &[u8],
+    h: Header,
+    first: u16,
+    i: u16,
+)
     requires { Lent codes.old h rec.now }
     ensures { Coded table_bytes rec.now codes.old codes.new (pushed h rec.now false (pushes_back h.bits h.frame (bodies_of h rec.now) first (i - first))) }
 {

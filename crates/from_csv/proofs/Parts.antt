@@ -12,7 +12,7 @@ use borrow.Author.Tests.{eq-eqb, ne_eqb, le-leb, lt-leb}
 use Rattle.lists.specs.Choice.{pick}
 use Rattle.lists.specs.Put.{put}
 use Rattle.lists.specs.PutLaws.{put_none}
-use Rattle.rows.specs.Lists.{Lists, lists_of}
+use Rattle.rows.specs.Lists.{Lists}
 use Rattle.page.specs.Page.{refusal, count_line, lines_text, page_text, page_of}
 use Rattle.page.proofs.Pieces.{Puts, puts_then, lines_append}
 use Rattle.from_csv.specs.Output.{part_count, page_part, page_parts}
@@ -35,25 +35,19 @@ part_min x =
     ]
 
 -- ---- what is written
-module _ (text ends lines addresses marks : List ℕ) (p first k : ℕ) (begin : first ≡ 2000 * p) (count : k ≡ part_count (length addresses - first)) where
-  abbrev lists : Lists
-  lists = lists_of text ends [] addresses marks [] lines
-
-  abbrev n : ℕ
-  n = length addresses
-
+module _ (l : Lists) (p n first k : ℕ) (size : n ≡ length l.addresses) (begin : first ≡ 2000 * p) (count : k ≡ part_count (n - first)) where
   abbrev own : List ℕ
-  own = lines_text text ends lines addresses marks first k
+  own = lines_text l first k
 
   pub first_part : (at r : ℕ) (e e₁ e₂ : List ℕ) → p ≡ 0 → at ≡ length (count_line n) → e₁ ≡ put 0 (count_line n) e → r ≡ at + length own → e₂ ≡ put at own e₁
-      → Puts 0 (page_part lists p) r e e₂
+      → Puts 0 (page_part l p) r e e₂
   unfolding page_part
   first_part at r e e₁ e₂ z h q i t =
-      rw (eq-eqb p 0 z, ← begin, ← count) (puts_then 0 at r (count_line n) own e e₁ e₂ (record { text = q; end = omega arith }) t i)
+      rw (eq-eqb p 0 z, ← size, ← begin, ← count) (puts_then 0 at r (count_line n) own e e₁ e₂ (record { text = q; end = omega arith }) t i)
 
-  pub later_part : (r : ℕ) (e e₁ : List ℕ) → (p ≡ 0 → ⊥) → r ≡ 0 + length own → e₁ ≡ put 0 own e → Puts 0 (page_part lists p) r e e₁
+  pub later_part : (r : ℕ) (e e₁ : List ℕ) → (p ≡ 0 → ⊥) → r ≡ 0 + length own → e₁ ≡ put 0 own e → Puts 0 (page_part l p) r e e₁
   unfolding page_part
-  later_part r e e₁ z i t = rw (ne_eqb p 0 z, ← begin, ← count) (record { text = t; end = i })
+  later_part r e e₁ z i t = rw (ne_eqb p 0 z, ← size, ← begin, ← count) (record { text = t; end = i })
 
 -- a refusal
 module _ (p n : ℕ) where
@@ -72,7 +66,7 @@ module _ (l : Lists) where
   all = length l.addresses
 
   abbrev lines_from : ℕ → ℕ → List ℕ
-  lines_from = lines_text l.text l.ends l.lines l.addresses l.marks
+  lines_from = lines_text l
 
   -- the lines of one part more
   next_part : (i : ℕ) → lines_from 0 (min all i) ++ lines_from i (part_count (all - i)) ≡ lines_from 0 (min all (i + 2000))
@@ -83,7 +77,7 @@ module _ (l : Lists) where
             let c = part_count (all - i) in
             let d : min all i ≡ i = omega arith in
             let e : min all (i + 2000) ≡ i + c = omega (arith, part_min (all - i)) in
-            rw (d, e) (sym (lines_append l.text l.ends l.lines l.addresses l.marks 0 i c ∙ rw zero-add))
+            rw (d, e) (sym (lines_append l 0 i c ∙ rw zero-add))
         | no a ↦
             let d : min all i ≡ all = omega arith in
             let e : min all (i + 2000) ≡ all = omega arith in

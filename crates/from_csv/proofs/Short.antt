@@ -78,14 +78,14 @@ module _ (rs : List Row) (good : good_rows rs ≡ true) (small : length (rows_te
         let k = addresses_length rs in
         omega (arith, lines_end_lem new.ends new.lines i, lines_end_lem new.ends new.lines (suc i), text_rise new _ _ _ (rows_held rs good) i (omega arith))
 
-    lines_part : (i k : ℕ) → k ≡ part_count (n - i) → length (lines_text new.text new.ends new.lines new.addresses new.marks i k) ≤ 528 * 2000 + 262144
+    lines_part : (i k : ℕ) → k ≡ part_count (n - i) → length (lines_text new i k) ≤ 528 * 2000 + 262144
     unfolding lines_text
     lines_part i k q =
         let few : k ≤ 2000 = omega (arith, q, part_min (n - i)) in
         elim (dec_le i n) [
           | yes a ↦
               let most : i + k ≤ n = omega (arith, q, part_min (n - i)) in
-              omega (arith, few, lines_short new.text new.ends new.lines new.addresses new.marks (addresses_fit rs good) n ends_rise i k most, end_inside (i + k) most)
+              omega (arith, few, lines_short new (addresses_fit rs good) n ends_rise i k most, end_inside (i + k) most)
           | no a ↦
               let none : k ≡ 0 = q ∙ sym (part_none n i (omega arith)) in
               rw none (omega arith)

@@ -22,7 +22,7 @@ part_count rest = pick (leb rest 2000) rest 2000
 unfoldable pub page_part : Lists → ℕ → List ℕ
 page_part l p =
     let n = length l.addresses in
-    pick (eqb p 0) (count_line n) [] ++ lines_text l.text l.ends l.lines l.addresses l.marks (2000 * p) (part_count (n - 2000 * p))
+    pick (eqb p 0) (count_line n) [] ++ lines_text l (2000 * p) (part_count (n - 2000 * p))
 
 -- the first n parts
 unfoldable pub page_parts : Lists → ℕ → List ℕ

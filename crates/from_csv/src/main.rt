@@ -4,65 +4,56 @@
 ghost use Rattle.std.specs.Prelude.{◌≡◌, [], ◌-◌, ◌<◌, ◌≤◌, eqb, length, take};
 ghost use Rattle.lists.specs.Choice.{pick};
 ghost use Rattle.lists.specs.Put.{put};
-ghost use Rattle.rows.specs.Lists.{lists_of};
+ghost use Rattle.lists.specs.Question.{number};
 ghost use Rattle.page.specs.Page.{refusal};
 ghost use Rattle.from_csv.specs.Output.{part_count, page_part, Prints};
 
 use csv_rows::reading::read_rows;
 use lists::parts::part;
+use lists::question::Question;
 use page::number::put_refusal;
 use page::page::{put_count, put_lines};
-use rows::answer::Answer;
+use rows::listing::Listing;
 use stdio::input::{bytes_read, read_input};
+use stdio::output::print_answer;
 
 // How many of n lines a part has that begins with line `first`.
+#[tactic(auto, using(crate::proofs::Parts::part_min))]
 fn part_count(n: usize, first: usize) -> usize
     ensures { (result ≡ part_count (n - first)) × (result ≤ 2000) }
 {
-    if n <= first {
-        return 0;
-    }
-    let rest = n - first;
-    if rest <= 2000 { rest } else { 2000 }
+    n.saturating_sub(first).min(2000)
 }
 
-// Part p of the page of a listing; kinds and places are not printed.
-fn put_part(
-    out: &mut [u8],
-    p: usize,
-    text: &[u8],
-    ends: &[u32],
-    lines: &[u32],
-    addresses: &[u64],
-    marks: &[u16],
-) -> usize
-    requires { (p < 11) × (length text.now ≤ 262144) × (length addresses.now ≤ 21845) }
-    ensures end { result ≡ length (page_part (lists_of text.now ends.now [] addresses.now marks.now [] lines.now) p) }
-    ensures text { out.new ≡ put 0 (page_part (lists_of text.now ends.now [] addresses.now marks.now [] lines.now) p) out.old }
+// Part p of the page of a listing.
+fn put_part(out: &mut [u8], p: usize, l: &Listing<'_>) -> usize
+    requires { (p < 11) × (length l.now.text ≤ 262144) × (length l.now.addresses ≤ 21845) }
+    ensures end { result ≡ length (page_part l.now p) }
+    ensures text { out.new ≡ put 0 (page_part l.now p) out.old }
 {
-    let n = addresses.len();
+    let n = l.addresses.len();
     let first = 2000 * p;
     let k = part_count(n, first);
     if p == 0 {
         let at = put_count(out, n as u16);
-        return put_lines(out, at, first, k, text, ends, lines, addresses, marks);
+        return put_lines(out, at, first, k, l);
     }
-    put_lines(out, 0, first, k, text, ends, lines, addresses, marks)
+    put_lines(out, 0, first, k, l)
 }
 
 // A refusal is part 0, and there is no other.
-fn put_refused(out: &mut [u8], p: usize, n: u8) -> usize
-    ensures end { (result ≡ length (pick (eqb p 0) (refusal n) [])) × (result ≤ 10) }
-    ensures text { out.new ≡ put 0 (pick (eqb p 0) (refusal n) []) out.old }
+fn put_refused(out: &mut [u8], p: usize, q: Question) -> usize
+    ensures end { (result ≡ length (pick (eqb p 0) (refusal (number q)) [])) × (result ≤ 10) }
+    ensures text { out.new ≡ put 0 (pick (eqb p 0) (refusal (number q)) []) out.old }
 {
     if p == 0 {
-        return put_refusal(out, n);
+        return put_refusal(out, q);
     }
     0
 }
 
 // `answer` with lists that suffice: 262,144 bytes of rows have at most so many bytes of text, tokens (of 6 bytes or more) and lines (of 12
-// or more).
+// or more). Seven lists are seven parameters where they are filled: of a struct of seven `&mut` lists the proof did not close.
 fn answer_with(
     rows: &[u8],
     p: usize,
@@ -81,19 +72,22 @@ fn answer_with(
     ensures whole { 1318156 ≤ length out.old → Prints rows.now p (take result out.new) }
 {
     if rows.len() > 262144 {
-        return put_refused(out, p, 16);
+        return put_refused(out, p, Question::Rows);
     }
     match read_rows(rows, text, ends, kinds, addresses, marks, places, lines) {
-        Answer::Listed(z) => put_part(
-            out,
-            p,
-            part(text, 0, z.text),
-            part(ends, 0, z.tokens),
-            part(lines, 0, z.lines),
-            part(addresses, 0, z.lines),
-            part(marks, 0, z.lines),
-        ),
-        Answer::No(n) => put_refused(out, p, n),
+        Ok(sizes) => {
+            let all = Listing {
+                text,
+                ends,
+                kinds,
+                addresses,
+                marks,
+                places,
+                lines,
+            };
+            put_part(out, p, &all.cut(sizes))
+        }
+        Err(q) => put_refused(out, p, q),
     }
 }
 
@@ -139,10 +133,7 @@ fn main(rt: HostRuntime) {
         if m == 0 {
             return;
         }
-        if rt.write_all(part(&out, 0, m)).is_err() {
-            let _ = rt
-                .stderr()
-                .write_all(b"from_csv: standard output cannot be written\n");
+        if !print_answer(part(&out, 0, m), b"from_csv", &rt, &rt.stderr()) {
             return;
         }
     }

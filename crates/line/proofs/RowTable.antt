@@ -3,7 +3,8 @@
 use mathlib.Core.Path.{◌≡◌, refl, sym, ap, ◌∙◌}
 use mathlib.Core.Bool.{Bool}
 use mathlib.Core.List.{List, [], map}
-use Prim.Native.Nat.{ℕ, ◌+◌, ◌*◌, ◌<◌}
+use Prim.Native.Nat.{ℕ, ◌+◌, ◌*◌, ◌<◌, ◌≤◌}
+use native.Mathlib.Omega.{arith}
 use lib.Dec.{T, ltb, ltb→lt}
 use lib.ListN.{length, get_or, take, drop}
 use lib.Seq.{get_or-drop}
@@ -33,6 +34,14 @@ size_of t e = ap length e ∙ size
 pub codes_in_lem : (t : List ℕ) (k : ℕ) → t ≡ row_bytes → k < 48 → row_in t k ≡ codes_of k
 unfolding codes_of
 codes_in_lem t k e h = ap (λ (l : List ℕ). row_in l k) e ∙ entry (row_in row_bytes) 48 codes [] whole k h
+
+-- each row is within the table
+row_short : (k : ℕ) → k < 48 → get_or row_bytes (16 * k) 0 < 16
+unfolding row_bytes codes
+row_short k h = ltb→lt _ _ (below_at (λ k. ltb (get_or row_bytes (16 * k) 0) 16) 48 tt k h)
+
+pub row_end : (t : List ℕ) (k : ℕ) → t ≡ row_bytes → k < 48 → 16 * k + 1 + get_or t (16 * k) 0 ≤ length t
+row_end t k e h = rw e (omega (arith, row_short k h, size))
 
 -- the byte of each mnemonic
 behind : drop 768 row_bytes ≡ tab form_byte 0 256

@@ -27,7 +27,15 @@ use x86::table::Isa;
 
 // The form of a line of instruction i, in the block whose first instruction is `first`: most mnemonics decide it alone, and the table has
 // it. Only a ret asks whether a value is left.
-fn line_form(isa: Isa<'_>, rows: Rows<'_>, rec: &[u8], h: Header, what: u8, first: u16, i: u16) -> u8
+fn line_form(
+    isa: Isa<'_>,
+    rows: Rows<'_>,
+    rec: &[u8],
+    h: Header,
+    what: u8,
+    first: u16,
+    i: u16,
+) -> u8
     ensures { result ≡ form_number (form_of h rec.now (what_at what) first i) }
 {
     if what < 8 {

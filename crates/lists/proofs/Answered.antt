@@ -10,10 +10,25 @@ use Rattle.lists.specs.declared.question.Question.TheVariants.{Header, Fields, L
 pub number_some : (q : Question) → 1 ≤ number q
 number_some =
     elim [
-      | Header ↦ omega arith | Fields ↦ omega arith | Limits ↦ omega arith | Length ↦ omega arith | Marks ↦ omega arith
-      | Starts ↦ omega arith | EdgeKinds ↦ omega arith | Bodies ↦ omega arith | Atlas ↦ omega arith | Spans ↦ omega arith
-      | Range ↦ omega arith | TextRoom ↦ omega arith | TokenRoom ↦ omega arith | LineRoom ↦ omega arith | Branches ↦ omega arith
-      | Rows ↦ omega arith | Literal ↦ omega arith | Routine ↦ omega arith | Names ↦ omega arith
+      | Header ↦ omega arith
+      | Fields ↦ omega arith
+      | Limits ↦ omega arith
+      | Length ↦ omega arith
+      | Marks ↦ omega arith
+      | Starts ↦ omega arith
+      | EdgeKinds ↦ omega arith
+      | Bodies ↦ omega arith
+      | Atlas ↦ omega arith
+      | Spans ↦ omega arith
+      | Range ↦ omega arith
+      | TextRoom ↦ omega arith
+      | TokenRoom ↦ omega arith
+      | LineRoom ↦ omega arith
+      | Branches ↦ omega arith
+      | Rows ↦ omega arith
+      | Literal ↦ omega arith
+      | Routine ↦ omega arith
+      | Names ↦ omega arith
     ]
 
 module _ {A : Type 0} (n : ℕ) (x : A) where

@@ -158,7 +158,14 @@ fn code_unnamed(codes: &mut [u64], tables: Tables<'_>, w: u8, va: u64, deref: bo
 }
 
 // A global: the atlas is searched once, for the `&` and for the token.
-fn code_global(codes: &mut [u64], tables: Tables<'_>, rec: &[u8], h: Header, body: &[u8], deref: bool)
+fn code_global(
+    codes: &mut [u64],
+    tables: Tables<'_>,
+    rec: &[u8],
+    h: Header,
+    body: &[u8],
+    deref: bool,
+)
     requires { Lent codes.old h rec.now }
     ensures { Coded table_bytes rec.now codes.old codes.new (global h rec.now deref body.now) }
 {

@@ -3,7 +3,6 @@ ghost use Rattle.std.specs.Prelude.{◌≡◌};
 ghost use Rattle.record.specs.Header.{header_of, fields_ok, limits_ok};
 
 use lists::reads::{u8_at, u16_at, u32_at};
-use lists::signed::signed32;
 
 #[derive(Clone, Copy)]
 pub struct Header {
@@ -34,7 +33,7 @@ pub fn read_header(s: &[u8]) -> Header
         atlas: u16_at(s, 10),
         spans: u16_at(s, 12),
         frame: u16_at(s, 14),
-        shift: signed32(u32_at(s, 16)),
+        shift: u32_at(s, 16).cast_signed(),
         shifted: u8_at(s, 20),
         indent: u8_at(s, 21),
         text: u16_at(s, 22),

@@ -27,12 +27,7 @@ fn says(s: &[u8], k: u16) -> bool
 fn number_in(s: &[u8]) -> Option<u16>
     ensures { MatchOption result ((k : ℕ) → k < 276 → Says s.now k → ⊥) (λ k. (k < 276) × Says s.now k) }
 {
-    for k in 0..276 {
-        if says(s, k) {
-            return Some(k);
-        }
-    }
-    None
+    (0..276).find(|&k| says(s, k))
 }
 
 // What the program prints; answers how many bytes that is. The longest record has 405.

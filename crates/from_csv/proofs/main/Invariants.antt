@@ -1,7 +1,6 @@
 -- `main` is safe and ends.
 -- Eleven parts at most, and each is told a list of its own length.
 use mathlib.Core.Path.{◌≡◌}
-use Prim.Native.Nat.{◌-◌}
 use lib.ListN.{length}
 use Rattle.from_csv.proofs.main.Given as goal
 

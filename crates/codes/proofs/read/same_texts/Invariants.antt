@@ -1,6 +1,6 @@
 -- `read::same_texts` meets its contract.
 -- The invariant: from index j on the texts are the same exactly if the whole texts are.
-use Rattle.std.proofs.Common.{◌≡◌, ◌-◌, drop}
+use Rattle.std.proofs.Common.{◌≡◌, drop}
 use Rattle.x86.specs.Words.{same_word}
 use Rattle.codes.specs.Code.{decode}
 use Rattle.codes.specs.Spelled.{spelled}

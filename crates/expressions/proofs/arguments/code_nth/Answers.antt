@@ -1,6 +1,6 @@
 -- `arguments::code_nth` meets its contract.
 -- A register, and a comma in front of it past the first.
-use Rattle.expressions.proofs.CodedCommas.{nth_behind, nth_first}
+use Rattle.expressions.proofs.CodedCommas.{nth_behind}
 use Rattle.expressions.proofs.arguments.code_nth.Goals as goal
 
 pub returns-then-k-gt0 : goal.returns-then-k-gt0

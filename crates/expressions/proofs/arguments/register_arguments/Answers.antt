@@ -1,14 +1,11 @@
 -- `arguments::register_arguments` meets its contract.
 -- The invariant: the registers coded and those left are all of them.
-use mathlib.Core.Path.{◌≡◌, refl}
-use mathlib.Core.List.{List}
-use Prim.Native.Nat.{ℕ, ◌≤◌, ◌-◌}
+use mathlib.Core.Path.{refl}
 use native.Mathlib.Omega.{arith}
-use lib.ListN.{length}
 use Rattle.codes.proofs.Coding.{coded_none}
 use Rattle.operand.proofs.Tokens.{as_tokens}
-use Rattle.expressions.proofs.Commas.{registers_left, nth_step, none_left, all_left}
-use Rattle.expressions.proofs.Turns.{Sofar, at_start, further, at_end}
+use Rattle.expressions.proofs.Commas.{nth_step, none_left, all_left}
+use Rattle.expressions.proofs.Turns.{at_start, further, at_end}
 use Rattle.expressions.proofs.arguments.register_arguments.Goals as goal
 
 pub loop-k-init : goal.loop-k-init

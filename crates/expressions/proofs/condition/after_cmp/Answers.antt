@@ -2,9 +2,8 @@
 -- By whether the table has a relation for the condition.
 use Rattle.codes.proofs.Coding.{coded_more}
 use Rattle.codes.proofs.EachToken.{as_token}
-use Rattle.operand.proofs.Tokens.{as_tokens}
 use Rattle.expressions.proofs.Relations.{operator_word}
-use Rattle.expressions.proofs.Conditions.{related, no_relation}
+use Rattle.expressions.proofs.Conditions.{related}
 use Rattle.expressions.proofs.condition.after_cmp.Goals as goal
 
 pub returns-then-r-lt6 : goal.returns-then-r-lt6

@@ -1,8 +1,7 @@
 -- `condition::after_other` meets its contract.
 -- By whether it is BT or IMUL, and else whether the table has a relation for the condition.
 use Rattle.operand.proofs.Tokens.{as_tokens}
-use mathlib.Core.Path.{◌∙◌}
-use Rattle.expressions.proofs.Conditions.{related, no_relation, bt_or_imul, other_than}
+use Rattle.expressions.proofs.Conditions.{related, other_than}
 use Rattle.expressions.proofs.condition.after_other.Goals as goal
 
 pub returns-then-r-lt6 : goal.returns-then-r-lt6

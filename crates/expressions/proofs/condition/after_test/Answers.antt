@@ -1,7 +1,6 @@
 -- `condition::after_test` meets its contract.
 -- By whether the table has a relation for the condition.
-use Rattle.operand.proofs.Tokens.{as_tokens}
-use Rattle.expressions.proofs.Conditions.{related, no_relation}
+use Rattle.expressions.proofs.Conditions.{related}
 use Rattle.expressions.proofs.condition.after_test.Goals as goal
 
 pub returns-then-r-lt6 : goal.returns-then-r-lt6

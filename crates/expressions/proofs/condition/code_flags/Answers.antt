@@ -1,9 +1,5 @@
 -- `condition::code_flags` meets its contract.
 -- The words of the conditions stand in order; past the last word a text is empty.
-use native.Mathlib.Omega.{arith}
-use lib.Dec.{ltb}
-use borrow.Author.Tests.{ltb-true}
-use Rattle.lists.specs.Every.{both_yes}
 use Rattle.codes.proofs.EachToken.{as_token}
 use Rattle.expressions.proofs.Relations.{flags_word_lem, no_flags_word}
 use Rattle.expressions.proofs.condition.code_flags.Goals as goal

@@ -1,6 +1,6 @@
 -- `condition::code_unsigned` meets its contract.
 -- By whether the relation is one of unsigned numbers.
-use Rattle.expressions.proofs.Conditions.{as_unsigned, as_it_is}
+use Rattle.expressions.proofs.Conditions.{as_unsigned}
 use Rattle.expressions.proofs.condition.code_unsigned.Goals as goal
 
 pub returns-then-prints_unsigned : goal.returns-then-prints_unsigned

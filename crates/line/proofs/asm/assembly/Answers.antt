@@ -1,6 +1,5 @@
 -- `asm::assembly` meets its contract.
 -- While all counts as Text the tokens are coded as Text; then no more.
-use native.Mathlib.Omega.{arith}
 use Rattle.line.proofs.Assembled.{all_assembled}
 use Rattle.line.proofs.asm.assembly.Goals as goal
 

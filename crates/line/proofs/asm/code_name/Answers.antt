@@ -11,7 +11,7 @@ overflow_cast-n c = omega (arith, name_short _ c.name_length-n.ensures)
 pub returns-then-m-eq0 : goal.returns-then-m-eq0
 returns-then-m-eq0 c =
     let a = c.args in
-    as_token _ _ (name_of_record a.h a.rec.now a.body.now _ c.mnemonic-m.ensures a.i _ _ _ c.if-m-eq0.true c.requires.body_value c.from.ensures.0 c.name_length-n.ensures c.name_place.ensures) c.code_part.ensures
+    as_token _ _ (name_of_record a.h a.rec.now a.body.now _ c.mnemonic-m.ensures a.i _ _ _ c.if-m-eq0.true c.requires.body_value c.from.ensures.0 c.name_length-n.ensures c.name_place.ensures) (c.code_part.ensures _)
 
 pub returns : goal.returns
 returns c =

@@ -1,13 +1,11 @@
 -- `asm::code_operands` meets its contract.
 -- The invariant: the operands coded and those left are all of them.
-use mathlib.Core.Path.{◌≡◌, refl}
-use Prim.Native.Nat.{◌≤◌, ◌-◌}
+use mathlib.Core.Path.{refl}
 use native.Mathlib.Omega.{arith}
-use lib.ListN.{length}
 use Rattle.codes.proofs.Coding.{coded_none}
 use Rattle.operand.proofs.Tokens.{as_tokens}
-use Rattle.expressions.proofs.Turns.{Sofar, at_start, further, at_end}
-use Rattle.line.proofs.Names.{operands_left, operand_step, operands_done, operands_all}
+use Rattle.expressions.proofs.Turns.{at_start, further, at_end}
+use Rattle.line.proofs.Names.{operand_step, operands_done, operands_all}
 use Rattle.line.proofs.asm.code_operands.Goals as goal
 
 pub loop-i-init : goal.loop-i-init

@@ -13,12 +13,12 @@ pub returns-then-what-lt8 : goal.returns-then-what-lt8
 returns-then-what-lt8 c = form_early c.args.h c.args.rec.now c.args.what c.args.first c.args.i c.if-what-lt8.true
 
 pub bounds-rows-m : goal.bounds-rows-m
-bounds-rows-m c = omega (arith, size_of _ c.requires.rows_value)
+bounds-rows-m c = omega (arith, size_of _ c.args.rows.whole)
 
 pub returns-then-form-lt48 : goal.returns-then-form-lt48
 returns-then-form-lt48 c =
     let s = c.args.rec.now in
-    form_plain c.args.h s c.args.what c.args.first c.args.i _ _ _ _ c.if-what-lt8.false (c.from-bodies.ensures.0 ∙ ap (λ (x : ℕ). drop x s) c.bodies_at.ensures.0) c.body_at-body.ensures c.mnemonic-m.ensures (omega arith) c.requires.rows_value c.if-form-lt48.true
+    form_plain c.args.h s c.args.what c.args.first c.args.i _ _ _ _ c.if-what-lt8.false (c.from-bodies.ensures.0 ∙ ap (λ (x : ℕ). drop x s) c.bodies_at.ensures.0) c.body_at-body.ensures c.mnemonic-m.ensures (omega arith) c.args.rows.whole c.if-form-lt48.true
 
 pub returns-then-m-eq24 : goal.returns-then-m-eq24
 returns-then-m-eq24 c =
@@ -26,7 +26,7 @@ returns-then-m-eq24 c =
     form_ret c.args.h s c.args.what c.args.first c.args.i _ _ _ _ _ c.if-what-lt8.false (c.from-bodies.ensures.0 ∙ ap (λ (x : ℕ). drop x s) c.bodies_at.ensures.0) c.returns_value.ensures c.body_at-body.ensures c.mnemonic-m.ensures c.if-m-eq24.true c.return_form.ensures
 
 pub insn_form-requires : goal.insn_form-requires
-insn_form-requires c = record { isa_value = c.requires.isa_value; body_value = untold c.body_at-body.result.now _ _ c.mnemonic-m.ensures (omega arith) c.requires.rows_value c.if-form-lt48.false c.if-m-eq24.false }
+insn_form-requires c = record { body_value = untold c.body_at-body.result.now _ _ c.mnemonic-m.ensures (omega arith) c.args.rows.whole c.if-form-lt48.false c.if-m-eq24.false }
 
 pub returns : goal.returns
 returns c =

@@ -5,7 +5,7 @@ use mathlib.Core.Bool.{false}
 use Prim.Native.Nat.{ℕ}
 use Rattle.line.specs.Forms.{imul_form}
 use Rattle.line.specs.Codes.{form_number}
-use Rattle.line.proofs.PlainForms.{logic_range, form_imul, form_call, form_jmp, form_xchg, form_logic, form_cast}
+use Rattle.line.proofs.PlainForms.{form_imul, form_call, form_jmp, form_xchg, form_logic, form_cast}
 use Rattle.line.proofs.forms.insn_form.Goals as goal
 
 pub returns-then-m-eq23 : goal.returns-then-m-eq23

@@ -1,12 +1,10 @@
 -- `returns_value` meets its contract.
 -- The invariant: none of the instructions so far leaves a value.
-use mathlib.Core.Path.{◌≡◌, sym, ◌∙◌}
+use mathlib.Core.Path.{◌≡◌}
 use mathlib.Core.Bool.{false}
-use Prim.Native.Nat.{◌≤◌, ◌-◌}
-use native.Mathlib.Omega.{arith}
+use Prim.Native.Nat.{◌≤◌}
 use Rattle.lists.specs.Choice.{any_below}
-use Rattle.lists.specs.Below.{any_found, any_goes_on}
-use Rattle.line.specs.Forms.{value_before, returns_value}
+use Rattle.line.specs.Forms.{value_before}
 use Rattle.line.proofs.forms.returns_value.Given as goal
 
 abbrev pub invariant-loop-k : goal.invariant-loop-k

@@ -1,6 +1,5 @@
 -- `pieces::code_late` meets its contract.
 -- By the number of the piece.
-use native.Mathlib.Omega.{arith}
 use Rattle.operand.proofs.Tokens.{as_tokens}
 use Rattle.line.proofs.PieceTokens.{is_accumulator, is_assembly}
 use Rattle.line.proofs.pieces.code_late.Goals as goal

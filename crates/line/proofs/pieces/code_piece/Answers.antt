@@ -7,4 +7,4 @@ use Rattle.line.proofs.pieces.code_piece.Goals as goal
 pub returns-then-piece-lt136 : goal.returns-then-piece-lt136
 returns-then-piece-lt136 c =
     let a = c.args in
-    as_tokens (is_operand a.h a.rec.now a.site a.piece _ c.requires.body_value _ c.requires.le_piece c.if-piece-lt136.true c.slot_of.ensures) c.op.ensures
+    as_tokens (is_operand a.h a.rec.now a.site a.piece _ c.requires.body_value _ c.requires.le_piece c.if-piece-lt136.true c.saturating_sub.ensures) c.op.ensures

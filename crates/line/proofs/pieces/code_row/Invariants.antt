@@ -1,22 +1,16 @@
 -- `pieces::code_row` meets its contract.
 -- The invariant: the pieces coded and those left are all of them; each way through a turn codes its piece.
-use mathlib.Core.Logic.{⊎_elim}
-use mathlib.Core.Path.{◌≡◌, refl, ◌∙◌}
+use Rattle.codes.specs.Tables.{table_bytes}
+use mathlib.Core.Path.{◌≡◌}
 use mathlib.Core.List.{map}
-use Prim.Native.Nat.{◌≤◌, ◌-◌}
-use native.Mathlib.Omega.{arith}
+use Prim.Native.Nat.{◌≤◌}
 use lib.ListN.{length, drop}
-use Rattle.codes.specs.Coded.{Coded}
-use Rattle.codes.proofs.Coding.{coded_none}
-use Rattle.operand.proofs.Tokens.{as_tokens}
-use Rattle.expressions.proofs.Turns.{Sofar, at_start, further, at_end}
+use Rattle.expressions.proofs.Turns.{Sofar}
 use Rattle.line.specs.Codes.{piece_of}
-use Rattle.line.specs.Print.{piece_tokens, pieces_tokens}
-use Rattle.line.proofs.CodedTurns.{met}
-use Rattle.line.proofs.PieceTokens.{is_word, is_operand, row_step, row_done, row_all}
+use Rattle.line.specs.Print.{pieces_tokens}
 use Rattle.line.proofs.pieces.code_row.Given as goal
 
-abbrev pub invariant-loop-i : goal.invariant-loop-i
-invariant-loop-i l =
-    (length l.codes ≡ length l.initial.codes) × (l.i ≤ length l.pieces)
-    × Sofar l.tables l.rec l.initial.codes l.codes (pieces_tokens l.h l.rec l.site (map piece_of (drop 0 l.pieces))) (pieces_tokens l.h l.rec l.site (map piece_of (drop l.i l.pieces)))
+abbrev pub invariant-loop-piece : goal.invariant-loop-piece
+invariant-loop-piece l =
+    (length l.codes ≡ length l.initial.codes) × (l.piece-index ≤ length l.pieces)
+    × Sofar table_bytes l.rec l.initial.codes l.codes (pieces_tokens l.h l.rec l.site (map piece_of (drop 0 l.pieces))) (pieces_tokens l.h l.rec l.site (map piece_of (drop l.piece-index l.pieces)))

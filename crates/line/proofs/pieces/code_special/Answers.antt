@@ -1,6 +1,5 @@
 -- `pieces::code_special` meets its contract.
 -- By the number of the piece.
-use native.Mathlib.Omega.{arith}
 use Rattle.operand.proofs.Tokens.{as_tokens}
 use Rattle.line.proofs.PieceTokens.{is_arguments}
 use Rattle.line.proofs.pieces.code_special.Goals as goal

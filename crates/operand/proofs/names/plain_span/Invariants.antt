@@ -2,7 +2,7 @@
 -- The invariant: no span so far holds the address.
 use mathlib.Core.Path.{◌≡◌}
 use mathlib.Core.Bool.{false}
-use Prim.Native.Nat.{◌≤◌, ◌-◌}
+use Prim.Native.Nat.{◌≤◌}
 use Rattle.lists.specs.Choice.{any_below}
 use Rattle.operand.proofs.Entries.{holds}
 use Rattle.operand.proofs.names.plain_span.Given as goal

@@ -21,11 +21,11 @@ returns-in-6 c =
     let e = c.signed_at-in-6.ensures 64 v (omega arith) refl (sym (mod-eq_of_lt (omega arith))) in
     let r = signed_back w64 64 v (omega arith) (omega arith) _ e in
     elim c.in-6-1.branch [
-      in-6-1 w ↦ let k : c.args.kind ≡ 6 = omega arith in rw k r
+      | in-6-1 w ↦ let k : c.args.kind ≡ 6 = omega arith in rw k r
       | in_default+else-kind-lt5+then-kind-lt11 w ↦
-        let k : 9 ≤ c.args.kind = grind arith in
-        let l : c.args.kind ≤ 10 = omega arith in
-        ⊎_elim (λ (e : c.args.kind ≡ 9). rw e r) (λ (e : c.args.kind ≡ 10). rw e r) (nine_or_ten _ k l)
+          let k : 9 ≤ c.args.kind = grind arith in
+          let l : c.args.kind ≤ 10 = omega arith in
+          ⊎_elim (λ (e : c.args.kind ≡ 9). rw e r) (λ (e : c.args.kind ≡ 10). rw e r) (nine_or_ten _ k l)
     ]
 
 pub returns-in-5 : goal.returns-in-5

@@ -16,7 +16,7 @@ unfolding unseen code_text
 returns-in-0-to-31 c =
     let b = c.args.b in
     let e : escape b ≡ code_text b = elim c.in-0-to-31-1.branch [
-      in-127-1 w ↦ grind (arith, escape_code)
+      | in-127-1 w ↦ grind (arith, escape_code)
       | in_default+then-b-lt9 w ↦ grind (arith, escape_code)
       | in_default+else-b-lt9+else-b-lt11+then-b-lt32 w ↦ grind (arith, escape_code)
     ] in
