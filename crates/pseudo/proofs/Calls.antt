@@ -1,7 +1,7 @@
 -- A call on a record and range for which the questions before 12 got a yes lists the record's plan; on any other it answers the
 -- number of the first no. The plan is read back from its codes, which are few, and its lines fit.
-use mathlib.Core.Path.{◌≡◌, refl, sym, ap, ◌∙◌}
-use mathlib.Core.Bool.{Bool, true, false}
+use mathlib.Core.Path.{◌≡◌, refl, ap, ◌∙◌}
+use mathlib.Core.Bool.{true}
 use mathlib.Core.List.{List, [], ◌∷◌, map}
 use Prim.Native.Nat.{ℕ, zero, suc, ◌+◌, ◌-◌, ◌*◌, ◌^◌, ◌≤◌, ◌<◌}
 use native.Mathlib.Nat.{not-suc-le-zero}
@@ -41,7 +41,7 @@ use Rattle.rows.specs.declared.answer.Sizes.{Sizes}
 use Rattle.std.specs.declared.result.Result.{Result}
 use Rattle.lists.specs.declared.question.Question.{Question}
 use Rattle.std.specs.Prelude.{Ok, Err}
-use Rattle.lists.specs.Question.{number, Answers}
+use Rattle.lists.specs.Question.{Answers}
 use Rattle.lists.proofs.Answered.{value_is, question_is, number_some}
 use Rattle.pseudo.proofs.Answers.{refused}
 

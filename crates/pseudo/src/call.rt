@@ -1,10 +1,8 @@
 // The call that lists a range.
 ghost use Rattle.std.specs.Prelude.{map, ◌≡◌, ◌+◌, ◌*◌, ◌≤◌, length};
-ghost use Rattle.codes.specs.Tables.{table_bytes};
 ghost use Rattle.rows.specs.Lists.{lists_of};
 ghost use Rattle.operand.specs.Lent.{Rising, Lent};
 ghost use Rattle.flow.specs.Rows.{block_rows};
-ghost use Rattle.line.specs.Codes.{row_bytes};
 ghost use Rattle.line.specs.Lines.{line_in};
 ghost use Rattle.line.specs.Print.{printed};
 ghost use Rattle.line.specs.Fits.{Fits};

@@ -1,9 +1,9 @@
 // The codes of a plan's lines: they tell the sizes before any lent list is touched.
 ghost use Rattle.std.specs.Prelude.{map, ◌≡◌};
+ghost use Rattle.codes.specs.Tables.{table_bytes};
 ghost use Rattle.rows.specs.Lists.{sizes_of};
 ghost use Rattle.operand.specs.Lent.{Lent};
 ghost use Rattle.flow.specs.Rows.{block_rows};
-ghost use Rattle.line.specs.Codes.{row_bytes};
 ghost use Rattle.line.specs.Fits.{Fits};
 ghost use Rattle.line.specs.Lines.{line_in};
 ghost use Rattle.line.specs.Print.{printed};
@@ -11,7 +11,9 @@ ghost use Rattle.pseudo.specs.Listed.{plan_lists};
 ghost use Rattle.pseudo.specs.Coded.{HoldsLines};
 
 use codes::state::start;
+use codes::tables::Tables;
 use line::coded::code_lines;
+use line::rows::Rows;
 use record::header::Header;
 use rows::answer::Sizes;
 

@@ -1,6 +1,5 @@
 // The call that only sizes a listing.
 ghost use Rattle.std.specs.Prelude.{map, ◌≡◌};
-ghost use Rattle.codes.specs.Tables.{table_bytes};
 ghost use Rattle.std.specs.Prelude.{Ok};
 ghost use Rattle.lists.specs.Question.{Answers};
 ghost use Rattle.rows.specs.Lists.{sizes_of};
@@ -8,7 +7,6 @@ ghost use Rattle.operand.specs.Lent.{Rising};
 ghost use Rattle.record.specs.Asked.{first_no};
 ghost use Rattle.flow.specs.Rows.{block_rows};
 ghost use Rattle.line.specs.Fits.{Fits};
-ghost use Rattle.line.specs.Codes.{row_bytes};
 ghost use Rattle.line.specs.Lines.{line_in};
 ghost use Rattle.line.specs.Print.{printed};
 ghost use Rattle.pseudo.specs.Listed.{plan_lists};

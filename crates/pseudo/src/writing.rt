@@ -7,7 +7,6 @@ ghost use Rattle.tokens.specs.Listing.{listing, pushes_of};
 ghost use Rattle.operand.specs.Lent.{Rising};
 ghost use Rattle.operand.specs.Lent.{Lent};
 ghost use Rattle.flow.specs.Rows.{block_rows};
-ghost use Rattle.line.specs.Codes.{row_bytes};
 ghost use Rattle.line.specs.Fits.{Fits};
 ghost use Rattle.line.specs.Lines.{line_in};
 ghost use Rattle.line.specs.Print.{printed};
@@ -15,7 +14,9 @@ ghost use Rattle.pseudo.specs.Coded.{HoldsLines, Holds, Printed};
 
 use codes::read::codes_of;
 use codes::state::start;
+use codes::tables::Tables;
 use line::coded::{code_lines, mask_after};
+use line::rows::Rows;
 use record::header::Header;
 use writer::write::{Cursor, write_codes, write_listing};
 
@@ -45,7 +46,16 @@ fn write_part(
 {
     start(codes);
     code_lines(codes, tables, rec, h, rows, blocks, range, mask, plan);
-    write_codes(text, ends, kinds, lines, p, tables.bytes, rec, codes_of(codes))
+    write_codes(
+        text,
+        ends,
+        kinds,
+        lines,
+        p,
+        tables.bytes,
+        rec,
+        codes_of(codes),
+    )
 }
 
 // The lines one by one: the list of codes has room for any one of them.

@@ -2,7 +2,7 @@
 -- By whether there is room for the sizes, which the codes tell.
 use native.Mathlib.Omega.{arith}
 use Rattle.rows.specs.Lists.{lists_of}
-use Rattle.pseudo.proofs.Answers.{plan_room, plan_holds, plan_refused, plan_listed}
+use Rattle.pseudo.proofs.Answers.{plan_room, plan_holds, plan_listed}
 use Rattle.pseudo.proofs.Listing.{stands}
 use Rattle.pseudo.proofs.call.list_coded.Goals as goal
 
