@@ -1,11 +1,11 @@
 -- What the checker answers: the first question that got a no, or the first assumption that an accepted record breaks.
 -- By what the questions answered, and whether the record breaks an assumption.
-use mathlib.Core.Path.{◌≡◌, sym, ◌∙◌}
+use mathlib.Core.Path.{◌≡◌, sym, ap, subst, ◌∙◌}
 use mathlib.Core.Bool.{Bool, true, false, not}
 use mathlib.Core.List.{List}
 use Prim.Native.Nat.{ℕ}
 use borrow.Author.Tests.{not-true, not-false}
-use Rattle.std.specs.Prelude.{⊤, Ok, Err}
+use Rattle.std.specs.Prelude.{Ok, Err}
 use Rattle.std.specs.declared.result.Result.{Result}
 use Rattle.lists.specs.Question.{Answers}
 use Rattle.lists.specs.declared.question.Question.{Question}
@@ -29,7 +29,7 @@ no_of {r} p e = sym p ∙ not-true r e
 -- ---- what the questions answered, of the whole range, whose end was read off the header
 module _ (s : List ℕ) (read : Header) (to : ℕ) (r : Result Header Question) (head : read ≡ header_of s) (size : to ≡ read.blocks) (a : Answers (first_no s 0 to) (header_of s) r) where
   whole : Answers (first_no s 0 (header_of s).blocks) (header_of s) r
-  whole = rw (← head, ← size) a
+  whole = subst (λ (n : ℕ). Answers (first_no s 0 n) (header_of s) r) (size ∙ ap (λ (h : Header). h.blocks) head) a
 
   pub accepted : (h : Header) → r ≡ Ok h → Accepted h s
   accepted h e = let w = value_is _ _ r h whole e in record { header = w.1; yes = w.0 }
