@@ -1,4 +1,4 @@
--- 2 to 5, or 0: `broken_inside` meets its contract.
+-- 2 to 5: `check_inside` meets its contract.
 -- Each test that was read is the assumption, and the first that fails gives the number.
 use mathlib.Core.Path.{◌≡◌}
 use mathlib.Core.Bool.{not, ◌&&◌}
@@ -16,7 +16,7 @@ use Rattle.route.specs.Assumed.{sets_no_branch}
 use Rattle.checker.specs.Rows.{turns_inside, last_marked}
 use Rattle.checker.specs.Broken.{no_case, broken_inside}
 use Rattle.checker.proofs.Rows.{turns_last_is, lasts_unmarked_is}
-use Rattle.checker.proofs.check.broken_inside.Goals as goal
+use Rattle.checker.proofs.check.check_inside.Goals as goal
 
 -- the tests, over what was read of a record
 tests : (h : Header) (s bodies blocks kinds : List ℕ) → bodies ≡ bodies_of h s → blocks ≡ block_rows h s → kinds ≡ edge_kinds_of h s

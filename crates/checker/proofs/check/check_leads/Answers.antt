@@ -1,4 +1,4 @@
--- 9 to 12, or 0: `broken_leads` meets its contract.
+-- 9 to 12: `check_leads` meets its contract.
 -- Each test that was read is the assumption, and the first that fails gives the number.
 use mathlib.Core.Path.{◌≡◌, refl}
 use mathlib.Core.List.{List}
@@ -14,7 +14,7 @@ use Rattle.checker.specs.Broken.{broken_leads}
 use Rattle.checker.specs.Called.{Accepted}
 use Rattle.checker.proofs.Rows.{branches_inside_is, Parts, jumps_told, others_told}
 use Rattle.checker.proofs.Planned.{plain, counted}
-use Rattle.checker.proofs.check.broken_leads.Goals as goal
+use Rattle.checker.proofs.check.check_leads.Goals as goal
 
 -- the tests, over what was read of a record
 tests : (h : Header) (s targets kinds bodies blocks starts : List ℕ) → Accepted h s

@@ -1,4 +1,4 @@
--- 6 to 8, or 0: `broken_names` meets its contract.
+-- 6 to 8: `check_names` meets its contract.
 -- Each test that was read is the assumption, and the first that fails gives the number.
 use mathlib.Core.Path.{◌≡◌}
 use mathlib.Core.Bool.{not, ◌&&◌}
@@ -14,7 +14,7 @@ use Rattle.record.specs.Atlas.{entry_kind, entry_text}
 use Rattle.route.specs.Assumed.{starts_unnamed}
 use Rattle.checker.specs.Broken.{begins_loc, is_flow_word, entries_plain, mnemonics_plain, no_flow_words, broken_names}
 use Rattle.checker.proofs.Planned.{rising}
-use Rattle.checker.proofs.check.broken_names.Goals as goal
+use Rattle.checker.proofs.check.check_names.Goals as goal
 
 -- the tests, over what was read of a record
 tests : (h : Header) (s bodies pairs texts : List ℕ) → bodies ≡ bodies_of h s → pairs ≡ pairs_of h s → texts ≡ texts_of h s
