@@ -119,9 +119,6 @@ module _ (l : Lists) (z : Sizes) (call register : List ℕ) where
           roomy : (x ≤ length b.bytes) × (n ≤ length b.rows) × (n ≤ length b.addresses)
           roomy = room_all x n (length b.bytes) (length b.rows) (length b.addresses) no_no
 
-          pub bytes_room : length (made l call register z.lines).bytes ≤ length b.bytes
-          bytes_room = omega (arith, roomy.0, w.bytes_size)
-
           pub makes : (a : Table) → Fills (made l call register z.lines) b a → Makes l z call register b a (Ok (record { bytes = x; rows = n }))
           unfolding made
           makes a f =

@@ -1,6 +1,6 @@
 -- Texts are the same bytes exactly when they are equal, and what says that two are equal says that they are the same.
 -- Both lists are walked together; then by cases on the test.
-use mathlib.Core.Path.{◌≡◌, refl, sym, ap, ◌∙◌}
+use mathlib.Core.Path.{◌≡◌, refl, ap}
 use mathlib.Core.Bool.{Bool, true, ◌&&◌}
 use mathlib.Core.List.{List, [], ◌∷◌}
 use Prim.Native.Nat.{ℕ}
@@ -9,7 +9,7 @@ use lib.Pointwise.{pointwise}
 use borrow.Author.Tests.{eqb-true, eq-eqb}
 use Rattle.lists.specs.Every.{both_yes}
 use Rattle.x86.specs.Words.{same_word}
-use Rattle.lists.proofs.Tests.{split, never}
+use Rattle.lists.proofs.Tests.{never}
 
 pub same_equal : (a b : List ℕ) → same_word a b ≡ true → a ≡ b
 same_equal [] [] e = refl
@@ -27,9 +27,3 @@ same_pointwise [] [] = refl
 same_pointwise [] (y ∷ b) = refl
 same_pointwise (x ∷ a) [] = refl
 same_pointwise (x ∷ a) (y ∷ b) = ap (λ (t : Bool). eqb x y && t) (same_pointwise a b)
-
-pub same_test : (a b : List ℕ) (r : Bool) → (r ≡ true → a ≡ b) × (a ≡ b → r ≡ true) → r ≡ same_word a b
-same_test a b r h =
-    split (same_word a b)
-    (λ e. h.1 (same_equal a b e) ∙ sym e)
-    (λ e. split r (λ g. never (sym e ∙ ap (same_word a) (sym (h.0 g)) ∙ same_self a)) (λ g. g ∙ sym e))

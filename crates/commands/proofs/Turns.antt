@@ -109,9 +109,6 @@ module _ (l : Lists) (call register : List ℕ) (m : ℕ) where
   unfolding entries_from
   left_none = let d : m - m ≡ 0 = omega arith in rw d
 
-  pub counted_start : Counted whole (left_from 0) 0 0
-  counted_start = rw left_all (record { bytes = omega arith; rows = omega arith })
-
   pub counted_end : {x n : ℕ} (i : ℕ) → m ≤ i → i ≤ m → Counted whole (left_from i) x n → Measured (made l call register m) x n
   unfolding made table_of all_bytes
   counted_end i a b w =

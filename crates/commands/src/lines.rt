@@ -37,6 +37,7 @@ pub fn text_of<'a>(l: &Listing<'a>, i: usize, k: usize) -> &'a [u8]
 }
 
 // Whether line i is a call line.
+#[tactic(auto, using(crate::proofs::Asked::other_kinds))]
 pub fn is_call(l: &Listing<'_>, i: usize) -> bool
     requires { i < length l.now.lines }
     ensures { result ≡ is_call (row_at l.now i) }
@@ -51,6 +52,7 @@ pub fn is_call(l: &Listing<'_>, i: usize) -> bool
 }
 
 // Whether line i is a call line by this name.
+#[tactic(auto, using(crate::proofs::Asked::calls_told, crate::proofs::Asked::calls_none, crate::proofs::Same::same_pointwise))]
 pub fn calls_to(l: &Listing<'_>, call: &[u8], i: usize) -> bool
     requires { i < length l.now.lines }
     ensures { result ≡ calls_to call.now (row_at l.now i) }
@@ -62,6 +64,7 @@ pub fn calls_to(l: &Listing<'_>, call: &[u8], i: usize) -> bool
 }
 
 // Whether line i begins with this register.
+#[tactic(auto, using(crate::proofs::Asked::begins_told, crate::proofs::Asked::begins_none, crate::proofs::Same::same_pointwise))]
 pub fn begins_with(l: &Listing<'_>, register: &[u8], i: usize) -> bool
     requires { i < length l.now.lines }
     ensures { result ≡ begins_with register.now (row_at l.now i) }

@@ -18,7 +18,7 @@ fn put_pair(out: &mut [u8], at: usize, b: u8) -> usize
     requires { at + 2 ≤ length out.old }
     ensures { Wrote at (hex_digits true 2 b) out.old out.new result }
 {
-    let v = b as u64;
+    let v = u64::from(b);
     store(out, at, digit_of(true, v / 16 % 16));
     store(out, at + 1, digit_of(true, v % 16));
     at + 2

@@ -13,6 +13,7 @@ use rows::listing::Listing;
 use strings::reading::read_literal;
 
 // The line that sets the register for the call on line k.
+#[tactic(auto, using(crate::proofs::Search::search_start, crate::proofs::Search::search_end, crate::proofs::Search::search_other, crate::proofs::Search::search_call, crate::proofs::Search::search_found, crate::proofs::Search::search_further))]
 fn line_before(l: &Listing<'_>, register: &[u8], k: usize) -> Option<usize>
     requires { k < length l.now.lines }
     ensures { result ≡ line_before l.now register.now (row_at l.now k).place k }
@@ -59,6 +60,7 @@ fn set_by(l: &Listing<'_>, i: usize, out: &mut [u8]) -> Option<usize>
 }
 
 // How many bytes are set for the call on line k, from the start of `out` on.
+#[tactic(auto, using(crate::proofs::For::for_within))]
 pub fn bytes_for(l: &Listing<'_>, register: &[u8], k: usize, out: &mut [u8]) -> Option<usize>
     requires { (k < length l.now.lines) × (80 ≤ length out.old) }
     ensures { Gives result out.new (bytes_for l.now register.now k) }

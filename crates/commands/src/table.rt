@@ -70,6 +70,7 @@ fn put_row(
 }
 
 // The table of the first m lines, from the start of its lists on.
+#[tactic(auto, using(crate::proofs::Turns::call_room))]
 fn fill(
     l: &Listing<'_>,
     m: usize,
@@ -116,6 +117,7 @@ fn ask_room(size: Size, bytes: usize, rows: usize, calls: usize) -> Result<(), Q
 // The command table of lists of these sizes, for calls by a name and what a register is set to before them: bytes, rows and the calls'
 // addresses, from the start of each list on. An empty name is Question::Names, lists that hold no lines that rows can carry are Question::Rows,
 // lists that are too short are questions 12 to 14; then nothing is changed.
+#[tactic(auto, using(crate::proofs::Called::lines_few))]
 pub fn command_table(
     l: &Listing<'_>,
     sizes: Sizes,

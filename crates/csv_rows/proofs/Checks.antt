@@ -1,35 +1,23 @@
 -- The loops that ask whether lists hold rows.
 -- All before the one at hand are held, and end where it begins; one that is not held settles the answer.
-use mathlib.Core.Path.{◌≡◌, refl, sym, ap, ◌∙◌}
+use mathlib.Core.Path.{◌≡◌, sym, ◌∙◌}
 use mathlib.Core.Bool.{Bool, true, false, ◌&&◌, ◌||◌}
-use mathlib.Core.List.{List}
-use Prim.Native.Nat.{ℕ, zero, suc, ◌+◌, ◌-◌, ◌≤◌, ◌<◌}
+use Prim.Native.Nat.{ℕ, ◌+◌, ◌≤◌, ◌<◌}
 use native.Mathlib.Numerals.{add-one}
 use native.Mathlib.Omega.{arith}
 use lib.Dec.{eqb, ltb, leb}
-use lib.ListN.{length, get_or, get_or-eq_default}
+use lib.ListN.{get_or}
 use Rattle.lists.specs.Choice.{all_below}
 use Rattle.lists.specs.Below.{all_goes_on, all_fails}
 use Rattle.tokens.specs.Lines.{end_at}
 use Rattle.rows.specs.Lists.{Lists}
 use Rattle.rows.specs.Rows.{is_addressed, indent_of, token_held, row_held}
 
--- where tokens end, as it is read
-pub end_in : (es : List ℕ) (j : ℕ) → (j ≡ 0 → ⊥) → end_at es j ≡ get_or es (j - 1) 0
-end_in es zero h = absurd (h refl)
-end_in es (suc j) h = let d : suc j - 1 ≡ j = omega arith in rw d
-
-pub end_past : (es : List ℕ) (j : ℕ) → (j ≡ 0 → ⊥) → length es ≤ j - 1 → 0 ≡ end_at es j
-end_past es j h k = sym (end_in es j h ∙ get_or-eq_default es 0 k)
-
 -- ---- tokens
 pub record Tokens (l : Lists) (n x j : ℕ) : Type 0 where
   pub within : j ≤ n
   pub end : x ≡ end_at l.ends j
   pub held : all_below (token_held l) j ≡ true
-
-pub tokens_start : {l : Lists} {n : ℕ} → Tokens l n 0 0
-tokens_start = record { within = omega arith; end = refl; held = refl }
 
 module _ {l : Lists} {n x j : ℕ} (z : Tokens l n x j) where
   token_test : {y : ℕ} → y ≡ end_at l.ends (j + 1) → token_held l j ≡ (ltb x y && ltb (get_or l.kinds j 0) 8)
@@ -42,17 +30,11 @@ module _ {l : Lists} {n x j : ℕ} (z : Tokens l n x j) where
   pub tokens_fail : {y : ℕ} → j < n → y ≡ end_at l.ends (j + 1) → (ltb x y && ltb (get_or l.kinds j 0) 8) ≡ false → false ≡ all_below (token_held l) n
   tokens_fail h q b = sym (all_fails (token_held l) n j h (token_test q ∙ b))
 
-  pub tokens_all : n ≤ j → true ≡ all_below (token_held l) n
-  tokens_all h = let w = z.within in let d : j ≡ n = omega arith in sym z.held ∙ ap (all_below (token_held l)) d
-
 -- ---- rows
 pub record Rows (l : Lists) (m n i : ℕ) : Type 0 where
   pub within : i ≤ m
   pub end : n ≡ end_at l.lines i
   pub held : all_below (row_held l) i ≡ true
-
-pub rows_start : {l : Lists} {m : ℕ} → Rows l m 0 0
-rows_start = record { within = omega arith; end = refl; held = refl }
 
 abbrev row_test : ℕ → ℕ → ℕ → ℕ → Bool
 row_test n e mark address = ltb n e && ltb mark 512 && leb (indent_of mark) 254 && (is_addressed mark || eqb address 0)
@@ -68,6 +50,3 @@ module _ {l : Lists} {m n i : ℕ} (z : Rows l m n i) where
 
     pub rows_fail : b ≡ false → false ≡ all_below (row_held l) m
     rows_fail b = sym (all_fails (row_held l) m i h (row_test_lem q ∙ sym r ∙ b))
-
-  pub rows_all : m ≤ i → true ≡ all_below (row_held l) m
-  rows_all h = let w = z.within in let d : i ≡ m = omega arith in sym z.held ∙ ap (all_below (row_held l)) d

@@ -1,6 +1,6 @@
 -- What a store of a hex digit leaves.
 -- The digits of w are those of w / 16 and one more, and the last of a text may be stored first.
-use mathlib.Core.Path.{◌≡◌, refl, sym, ap, ◌∙◌}
+use mathlib.Core.Path.{◌≡◌, sym, ap, ◌∙◌}
 use mathlib.Core.Bool.{true}
 use mathlib.Core.List.{List, [], ◌∷◌, ◌++◌}
 use Prim.Native.Nat.{ℕ, suc, ◌+◌, ◌-◌, ◌/◌, ◌%◌, ◌≤◌}
@@ -15,9 +15,6 @@ use Rattle.text.specs.NumberLaws.{hex_digits_length}
 pub record Hex (at v : ℕ) (e₀ : List ℕ) (w i : ℕ) (e : List ℕ) : Type 0 where
   pub few : i ≤ 16
   pub left : put at (hex_digits true i w) e ≡ put at (hex_digits true 16 v) e₀
-
-pub hex_start : {at v : ℕ} {e : List ℕ} → Hex at v e v 16 e
-hex_start = record { few = omega arith; left = refl }
 
 module _ {at v : ℕ} {e₀ : List ℕ} {w i : ℕ} {e : List ℕ} (z : Hex at v e₀ w i e) where
   pub hex_length : length e ≡ length e₀

@@ -18,9 +18,6 @@ pub record Going (w : ℕ → List ℕ) (x at₀ : ℕ) (e₀ : List ℕ) (i at 
   pub done : at + length (w i) ≡ at₀ + length (w x)
   pub left : put at (w i) e ≡ put at₀ (w x) e₀
 
-pub going : {w : ℕ → List ℕ} {x at : ℕ} {e : List ℕ} → Going w x at e x at e
-going = record { done = refl; left = refl }
-
 module _ {w : ℕ → List ℕ} {x at₀ : ℕ} {e₀ : List ℕ} {i at : ℕ} {e : List ℕ} (z : Going w x at₀ e₀ i at e) where
   pub go_length : length e ≡ length e₀
   go_length = sym (put_length at (w i) e) ∙ ap length z.left ∙ put_length at₀ (w x) e₀

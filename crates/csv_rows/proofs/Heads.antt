@@ -8,7 +8,6 @@ use native.Mathlib.Omega.{arith}
 use lib.ListN.{length, set, length-append}
 use borrow.Author.Tests.{le-leb, lt-leb}
 use Rattle.lists.specs.Choice.{pick}
-use Rattle.text.specs.Number.{hex_digits}
 use Rattle.text.specs.NumberLaws.{hex_digits_length}
 use Rattle.text.specs.Decimal.{decimal_text}
 use Rattle.rows.specs.Rows.{is_addressed, indent_of}
@@ -23,9 +22,6 @@ address_size false a = refl
 module _ (mark address : ℕ) where
   pub address_none : {at : ℕ} {e : List ℕ} → mark < 256 → Wrote at (address_text (is_addressed mark) address) e e at
   address_none h = rw (lt-leb 256 mark h) wrote_none
-
-  pub address_wrote : {at r : ℕ} {e e' : List ℕ} → 256 ≤ mark → Wrote at (hex_digits true 16 address) e e' r → Wrote at (address_text (is_addressed mark) address) e e' r
-  address_wrote h w = rw (le-leb 256 mark h) w
 
   pub address_length : 256 ≤ mark → length (address_text (is_addressed mark) address) ≡ 16
   address_length h = address_size (is_addressed mark) address ∙ rw (le-leb 256 mark h)

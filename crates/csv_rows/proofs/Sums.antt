@@ -1,23 +1,16 @@
 -- The loops that add up the size of a file.
 -- What is added and what is left make up the whole; each addend is small.
-use mathlib.Core.Path.{◌≡◌, refl, sym, ap, ◌∙◌}
+use mathlib.Core.Path.{◌≡◌, ap, ◌∙◌}
 use mathlib.Core.List.{List}
 use Prim.Native.Nat.{ℕ, ◌+◌, ◌*◌, ◌≤◌, ◌<◌}
 use native.Mathlib.Nat.{zero-add}
 use native.Mathlib.Omega.{arith}
 use lib.ListN.{length, get_or, length-append}
-use borrow.Author.Tests.{eq-eqb, ne_eqb}
-use Rattle.lists.specs.Below.{sum_more}
 use Rattle.csv_rows.specs.Format.{doubled}
-use Rattle.csv_rows.specs.Writing.{char_text, frame_size, frames_size}
+use Rattle.csv_rows.specs.Writing.{char_text, frames_size}
 use Rattle.csv_rows.proofs.Going.{text_from, text_more, text_none, text_all}
 
 -- ---- a byte of a text, and a text
-pub char_quote : (b : ℕ) → b ≡ 34 → 2 ≡ length (char_text b)
-char_quote b h = rw (eq-eqb b 34 h)
-
-pub char_plain : (b : ℕ) → (b ≡ 34 → ⊥) → 1 ≡ length (char_text b)
-char_plain b h = rw (ne_eqb b 34 h)
 
 pub record Text (s : List ℕ) (n i : ℕ) : Type 0 where
   pub within : i ≤ length s
@@ -45,19 +38,3 @@ pub record Frames (marks places : List ℕ) (m n i : ℕ) : Type 0 where
   pub within : i ≤ m
   pub few : n ≤ 30 * i
   pub sum : n ≡ frames_size marks places i
-
-pub frames_start : {marks places : List ℕ} {m : ℕ} → Frames marks places m 0 0
-frames_start = record { within = omega arith; few = omega arith; sum = refl }
-
-module _ {marks places : List ℕ} {m n i : ℕ} (z : Frames marks places m n i) where
-  pub frames_turn : {mark place f : ℕ} → i < m → mark ≡ get_or marks i 0 → place ≡ get_or places i 0 → f ≡ frame_size mark place → f ≤ 30 → Frames marks places m (n + f) (i + 1)
-  frames_turn {mark} {place} {f} h a b q k =
-      let g : f ≡ frame_size (get_or marks i 0) (get_or places i 0) = q ∙ rw (a, b) in
-      record {
-        within = omega arith;
-        few = omega (arith, z.few);
-        sum = rw (z.sum, g) (sym (sum_more (λ j. frame_size (get_or marks j 0) (get_or places j 0)) i));
-      }
-
-  pub frames_end : m ≤ i → (n ≡ frames_size marks places m) × (n ≤ 30 * m)
-  frames_end h = let w = z.within in let d : i ≡ m = omega arith in (z.sum ∙ rw d, omega (arith, z.few))

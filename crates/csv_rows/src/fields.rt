@@ -40,7 +40,7 @@ fn put_doubled(out: &mut [u8], at: usize, s: &[u8]) -> usize
 fn letter_of(kind: u8) -> u8
     ensures { result ≡ letter kind }
 {
-    u8_at(b"XRNKSAPF", kind as usize)
+    u8_at(b"XRNKSAPF", usize::from(kind))
 }
 
 // A token: a comma, its kind's letter, a comma, its text in quotes.

@@ -85,7 +85,7 @@ fn after_hex(n: u8, v: u64, c: u8) -> At
 {
     if n < 16 {
         if v < 1152921504606846976 {
-            return when(is_hex(c), At::Hex(n + 1, v * 16 + hex_value(c) as u64));
+            return when(is_hex(c), At::Hex(n + 1, v * 16 + u64::from(hex_value(c))));
         }
         return At::Bad;
     }
@@ -96,7 +96,7 @@ fn after_hex(n: u8, v: u64, c: u8) -> At
 fn more_indent(h: bool, a: u64, x: u8, c: u8) -> At
     ensures { result ≡ pick (goes_on 254 x c) (At.Indent h a (longer x c)) At.Bad }
 {
-    let y = x as u32 * 10 + c.saturating_sub(48) as u32;
+    let y = u32::from(x) * 10 + u32::from(c.saturating_sub(48));
     if y <= 254 {
         return when(is_digit(c) & (0 < x), At::Indent(h, a, y as u8));
     }
@@ -106,7 +106,7 @@ fn more_indent(h: bool, a: u64, x: u8, c: u8) -> At
 fn more_place(h: bool, a: u64, x: u8, p: u16, c: u8) -> At
     ensures { result ≡ pick (goes_on 65535 p c) (At.Place h a x (longer p c)) At.Bad }
 {
-    let y = p as u32 * 10 + c.saturating_sub(48) as u32;
+    let y = u32::from(p) * 10 + u32::from(c.saturating_sub(48));
     if y <= 65535 {
         return when(is_digit(c) & (0 < p), At::Place(h, a, x, y as u16));
     }
@@ -125,7 +125,7 @@ pub fn next(s: At, c: u8) -> At
         At::Indent(h, a, x) => more_indent(h, a, x, c),
         At::PlaceStart(h, a, x) => when(
             is_digit(c),
-            At::Place(h, a, x, c.saturating_sub(48) as u16),
+            At::Place(h, a, x, u16::from(c.saturating_sub(48))),
         ),
         At::Place(_, _, _, _) if c == b',' => At::Letter,
         At::Place(h, a, x, p) => more_place(h, a, x, p, c),
@@ -176,5 +176,5 @@ pub fn effect_of(s: At, c: u8) -> Effect
 pub fn mark_of(h: bool, x: u8) -> u16
     ensures { result ≡ pick h (x + 256) x }
 {
-    x as u16 + u16::from(h) * 256
+    u16::from(x) + u16::from(h) * 256
 }

@@ -78,9 +78,6 @@ pub record Filling (t : List ℕ) (n : ℕ) (out : List ℕ) (i k : ℕ) (l : Li
   pub text : (s r : List ℕ) → is_string s ≡ true → length s ≡ n → t ≡ escapes s ++ r → drop i t ≡ escapes (drop k s) ++ r
   pub bytes : (s r : List ℕ) → is_string s ≡ true → length s ≡ n → t ≡ escapes s ++ r → put k (drop k s) l ≡ put 0 s out
 
-pub filling_start : (t : List ℕ) (n : ℕ) (out : List ℕ) → Filling t n out 0 0 out
-filling_start t n out = record { within = omega arith; few = omega arith; long = refl; text = λ s r h q e. e; bytes = λ s r h q e. refl }
-
 -- where no character is left, no more were asked for
 pub filling_stop : (t p out l : List ℕ) (n i k : ℕ) → p ≡ drop i t → Spelt p None → Filling t n out i k l → k < n → Filled t n out l
 unfolding escapes

@@ -3,7 +3,7 @@
 use mathlib.Core.Path.{◌≡◌, ap, ◌∙◌}
 use Rattle.lists.specs.Ascii.{ascii}
 use Rattle.x86.specs.Words.{same_word}
-use Rattle.commands.proofs.Asked.{addressed, not_addressed, no_address, call_told, other_kinds}
+use Rattle.commands.proofs.Asked.{addressed, not_addressed, no_address, call_told}
 use Rattle.commands.proofs.Same.{same_pointwise}
 use Rattle.commands.proofs.lines.is_call.Goals as goal
 
@@ -15,6 +15,3 @@ returns-then-kind_of c =
     let e : c.eq.result ≡ same_word c.text_of.result.now (ascii " = ") = c.eq.ensures ∙ same_pointwise c.text_of.result.now c.as_slice.result.now ∙ ap (same_word c.text_of.result.now) c.as_slice.ensures in
     call_told _ _ _ c.kind_of.ensures c.kind_of-2.ensures _ _ _ _ (addressed c.args.l.now c.args.i c.element_or.result (rw (← c.l.view_is) c.element_or.ensures) c.if-element_or-lt256.false)
     c.if-kind_of.true c.text_of.ensures e c.text_of-then-kind_of.ensures c.u8_at.ensures.0
-
-pub returns : goal.returns
-returns c = other_kinds _ _ _ c.kind_of.ensures c.kind_of-2.ensures c.if-kind_of.false

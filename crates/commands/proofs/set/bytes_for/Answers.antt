@@ -1,14 +1,10 @@
 -- The bytes set for a call: `bytes_for` meets its contract.
 -- By the line found, and what that line sets.
-use native.Mathlib.Omega.{arith}
-use Rattle.commands.proofs.For.{for_none, for_within, for_line}
+use Rattle.commands.proofs.For.{for_none, for_line}
 use Rattle.commands.proofs.set.bytes_for.Goals as goal
 
 pub returns-in_err-i : goal.returns-in_err-i
 returns-in_err-i c = rw c.from_residual.ensures (for_none _ _ _ _ c.line_before.ensures _ c.in_err-i.was)
-
-pub set_by-requires : goal.set_by-requires
-set_by-requires c = let w = for_within _ _ _ _ c.line_before.ensures _ c.in_ok-i.was in (omega (arith, w, c.requires.0), c.requires.1)
 
 pub returns : goal.returns
 returns c = for_line _ _ _ _ c.line_before.ensures _ c.in_ok-i.was _ _ c.set_by.ensures

@@ -3,7 +3,7 @@
 use mathlib.Core.Path.{sym, ◌∙◌}
 use Rattle.std.proofs.lemmas.Result.{err_from_is_err_and}
 use Rattle.commands.specs.Table.{table_lists}
-use Rattle.commands.proofs.Called.{no_name, no_rows, lines_few, no_room, bytes_room, makes}
+use Rattle.commands.proofs.Called.{no_name, no_rows, no_room, makes}
 use Rattle.commands.proofs.table.command_table.Goals as goal
 
 pub returns-then-call-register : goal.returns-then-call-register
@@ -12,9 +12,6 @@ returns-then-call-register c = no_name _ _ _ _ _ c.if-call-register.true
 pub returns-then-not-lists_hold : goal.returns-then-not-lists_hold
 returns-then-not-lists_hold c = no_rows _ _ _ _ c.if-call-register.false _ (sym c.if-not-lists_hold.true ∙ c.lists_hold.ensures)
 
-pub measure-size-requires : goal.measure-size-requires
-measure-size-requires c = lines_few _ _ (sym c.if-not-lists_hold.false ∙ c.lists_hold.ensures) c.numbers_fit.ensures
-
 pub returns-in_err-ask_room : goal.returns-in_err-ask_room
 returns-in_err-ask_room c =
     let p = err_from_is_err_and c.from_residual.result c.from_residual.ensures.1 in
@@ -22,16 +19,6 @@ returns-in_err-ask_room c =
     rw (p.1, p.2)
     (no_room _ _ _ _ c.if-call-register.false (sym c.if-not-lists_hold.false ∙ c.lists_hold.ensures) c.measure-size.ensures _ (table_lists a.bytes.now a.rows.now a.calls.now)
     c.ask_room.result c.ask_room.ensures c.in_err-ask_room.was)
-
-pub fill-requires : goal.fill-requires
-fill-requires c =
-    let a = c.args in
-    let h = sym c.if-not-lists_hold.false ∙ c.lists_hold.ensures in
-    record {
-      lines = lines_few _ _ h c.numbers_fit.ensures;
-      room = bytes_room _ _ _ _ c.if-call-register.false h c.measure-size.ensures _ (table_lists a.bytes.now a.rows.now a.calls.now)
-          c.ask_room.result c.ask_room.ensures c.in_ok-ask_room.was;
-    }
 
 pub returns : goal.returns
 returns c =

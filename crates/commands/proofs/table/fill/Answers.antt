@@ -2,15 +2,12 @@
 -- The invariant `Storing`: to store what is left is to store all.
 use mathlib.Core.Path.{refl}
 use native.Mathlib.Omega.{arith}
-use Rattle.commands.proofs.Turns.{going_start, going_on, storing_start, storing_end, call_room, storing_call, storing_other, found_few}
+use Rattle.commands.proofs.Turns.{going_start, going_on, storing_start, storing_end, storing_call, storing_other, found_few}
 use Rattle.commands.proofs.table.fill.Goals as goal
 use Rattle.commands.proofs.table.fill.Goals.{then-calls_to, else-calls_to}
 
 pub loop-k-init : goal.loop-k-init
 loop-k-init c = (going_start _ _ _ c.requires.lines refl, storing_start _ _ _ c.args.m _ _ _ c.requires.room)
-
-pub put_row-x-requires : goal.put_row-x-requires
-put_row-x-requires c = call_room _ _ _ _ _ c.loop-k-test.true c.calls_to.ensures c.if-calls_to.true c.loop-k.invariant.1 c.bytes_for-c.ensures.size
 
 pub loop-k-preserved : goal.loop-k-preserved
 loop-k-preserved c =
