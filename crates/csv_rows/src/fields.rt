@@ -44,6 +44,7 @@ fn letter_of(kind: u8) -> u8
 }
 
 // A token: a comma, its kind's letter, a comma, its text in quotes.
+#[tactic(auto, using(crate::proofs::Wrote::token_length))]
 pub fn put_token(out: &mut [u8], at: usize, kind: u8, s: &[u8]) -> usize
     requires { at + length (token_text (token kind s.now)) ≤ length out.old }
     ensures { Wrote at (token_text (token kind s.now)) out.old out.new result }
@@ -58,6 +59,7 @@ pub fn put_token(out: &mut [u8], at: usize, kind: u8, s: &[u8]) -> usize
 }
 
 // The address: sixteen digits, or nothing below mark 256.
+#[tactic(auto, using(crate::proofs::Heads::address_none, crate::proofs::Heads::address_length))]
 fn put_address(out: &mut [u8], at: usize, mark: u16, address: u64) -> usize
     requires { at + length (address_text (is_addressed mark) address) ≤ length out.old }
     ensures { Wrote at (address_text (is_addressed mark) address) out.old out.new result }
@@ -69,6 +71,7 @@ fn put_address(out: &mut [u8], at: usize, mark: u16, address: u64) -> usize
 }
 
 // A row's fields before its tokens: address, indent and place.
+#[tactic(auto, using(crate::proofs::Heads::head_length))]
 pub fn put_head(out: &mut [u8], at: usize, mark: u16, address: u64, place: u16) -> usize
     requires { at + length (head_text mark address place) ≤ length out.old }
     ensures { Wrote at (head_text mark address place) out.old out.new result }

@@ -7,6 +7,7 @@ use lists::stores::store;
 use text::number::digit_of;
 
 // Sixteen upper hex digits.
+#[tactic(auto, using(crate::proofs::Digits::hex_turn))]
 pub fn put_sixteen(out: &mut [u8], at: usize, v: u64) -> usize
     requires { at + 16 ≤ length out.old }
     ensures { Wrote at (hex_digits true 16 v) out.old out.new result }

@@ -27,6 +27,7 @@ fn doubled_size(s: &[u8]) -> usize
 }
 
 // A row besides its tokens.
+#[tactic(auto, using(crate::proofs::Heads::frame_plain, crate::proofs::Heads::frame_addressed))]
 fn frame_size(mark: u16, place: u16) -> usize
     ensures { (result ≡ frame_size mark place) × (result ≤ 30) }
 {
@@ -49,6 +50,7 @@ fn frames_size(marks: &[u16], places: &[u16], m: usize) -> usize
 }
 
 // Token ends have 32 bits, so that no sum can wrap.
+#[tactic(auto, using(crate::proofs::FileSize::file_sum))]
 pub fn file_size(text: &[u8], marks: &[u16], places: &[u16], sizes: Sizes) -> usize
     requires { (sizes.text < 2 ^ 32) × (sizes.tokens < 2 ^ 32) × (sizes.lines < 2 ^ 32) }
     ensures { result ≡ file_size text.now marks.now places.now sizes.text sizes.tokens sizes.lines }

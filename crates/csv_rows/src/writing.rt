@@ -38,6 +38,7 @@ fn put_tokens(out: &mut [u8], at: usize, l: &Listing<'_>, n: usize, m: usize) ->
 }
 
 // A row behind its first fields: the tokens from n up to m, and CR LF.
+#[tactic(auto, using(crate::proofs::Rows::line_length))]
 fn put_line(out: &mut [u8], at: usize, l: &Listing<'_>, n: usize, m: usize) -> usize
     requires { at + length (line_text l.now.text l.now.ends l.now.kinds m n) ≤ length out.old }
     ensures { Wrote at (line_text l.now.text l.now.ends l.now.kinds m n) out.old out.new result }

@@ -10,6 +10,7 @@ use record::body::{
 use x86::registers::{full_register, register_size};
 use x86::table::Isa;
 
+#[tactic(auto, unfolding(crate::specs::Forms::cast_form, crate::specs::Codes::form_number))]
 fn cast_form(isa: Isa<'_>, m: u8, body: &[u8]) -> u8
     ensures { result ≡ form_number (cast_form m body.now) }
 {
@@ -47,6 +48,7 @@ fn is_or_ones(body: &[u8]) -> bool
                 & (memory_size(body) == 4)))
 }
 
+#[tactic(auto, unfolding(crate::specs::Forms::imul_form, crate::specs::Codes::form_number))]
 fn imul_form(count: u8) -> u8
     ensures { result ≡ form_number (imul_form count) }
 {
@@ -56,6 +58,7 @@ fn imul_form(count: u8) -> u8
     if 2 <= count { 22 } else { 39 }
 }
 
+#[tactic(auto, unfolding(crate::specs::Forms::call_form, crate::specs::Codes::form_number))]
 fn call_form(body: &[u8]) -> u8
     ensures { result ≡ form_number (call_form body.now) }
 {
@@ -70,6 +73,7 @@ fn call_form(body: &[u8]) -> u8
     26
 }
 
+#[tactic(auto, unfolding(crate::specs::Forms::xchg_form, crate::specs::Codes::form_number))]
 fn xchg_form(body: &[u8]) -> u8
     ensures { result ≡ form_number (xchg_form body.now) }
 {
@@ -83,6 +87,7 @@ fn xchg_form(body: &[u8]) -> u8
 }
 
 // An instruction that leaves a value in the accumulator.
+#[tactic(auto, unfolding(crate::specs::Forms::leaves_value))]
 pub fn leaves_value(isa: Isa<'_>, body: &[u8]) -> bool
     ensures { result ≡ leaves_value body.now }
 {
@@ -93,18 +98,21 @@ pub fn leaves_value(isa: Isa<'_>, body: &[u8]) -> bool
 }
 
 // xor, and, or, where the operands may make it the store of a constant.
+#[tactic(auto, unfolding(crate::specs::Forms::logic_form, crate::specs::Forms::plain_form, crate::specs::Codes::form_number))]
 fn xor_form(body: &[u8]) -> u8
     ensures { result ≡ form_number (logic_form 6 body.now) }
 {
     if is_xor_self(body) { 6 } else { 12 }
 }
 
+#[tactic(auto, unfolding(crate::specs::Forms::logic_form, crate::specs::Forms::plain_form, crate::specs::Codes::form_number))]
 fn and_form(body: &[u8]) -> u8
     ensures { result ≡ form_number (logic_form 7 body.now) }
 {
     if is_and_zero(body) { 6 } else { 10 }
 }
 
+#[tactic(auto, unfolding(crate::specs::Forms::logic_form, crate::specs::Forms::plain_form, crate::specs::Codes::form_number))]
 fn or_form(body: &[u8]) -> u8
     ensures { result ≡ form_number (logic_form 8 body.now) }
 {
@@ -124,12 +132,14 @@ fn logic_form(m: u8, body: &[u8]) -> u8
     or_form(body)
 }
 
+#[tactic(auto, unfolding(crate::specs::Forms::return_form, crate::specs::Codes::form_number))]
 pub fn return_form(value: bool) -> u8
     ensures { result ≡ form_number (return_form value) }
 {
     if value { 27 } else { 28 }
 }
 
+#[tactic(auto, unfolding(crate::specs::Forms::jump_form, crate::specs::Codes::form_number))]
 fn jump_form(body: &[u8]) -> u8
     ensures { result ≡ form_number (jump_form body.now) }
 {
@@ -173,6 +183,7 @@ pub fn returns_value(isa: Isa<'_>, bodies: &[u8], first: u16, i: u16) -> bool
 }
 
 // Whether instruction i - 1 - k is of the block and leaves a value.
+#[tactic(auto, unfolding(crate::specs::Forms::value_before))]
 fn value_before(isa: Isa<'_>, bodies: &[u8], first: u16, i: u16, k: u16) -> bool
     requires { k ≤ 6 }
     ensures { result ≡ value_before bodies.now first i k }

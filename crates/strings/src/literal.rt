@@ -22,6 +22,7 @@ pub struct Literal {
 }
 
 // How many bytes the opening has: 1, or 2 if wide.
+#[tactic(auto, using(crate::proofs::Quotes::opens_not))]
 fn opening_size(t: &[u8]) -> Option<usize>
     ensures { Opens t.now result }
 {
@@ -35,6 +36,7 @@ fn opening_size(t: &[u8]) -> Option<usize>
 }
 
 // The characters that a text begins with, 80 at most.
+#[tactic(auto, using(crate::proofs::Characters::begins_none, crate::proofs::Characters::begins_more, crate::proofs::Characters::begins_last, crate::proofs::Characters::begins_all))]
 fn characters(t: &[u8]) -> Run
     ensures { Characters t.now result.count result.size }
 {
@@ -49,6 +51,7 @@ fn characters(t: &[u8]) -> Run
 }
 
 // Whether the literal was cut, if a text is what stands behind the last of its n characters.
+#[tactic(auto, using(crate::proofs::Quotes::ends_whole, crate::proofs::Quotes::ends_cut, crate::proofs::Quotes::ends_not), unfolding(text::specs::Literal::closing))]
 fn ending(t: &[u8], n: usize) -> Option<bool>
     ensures { Ends t.now n result }
 {

@@ -32,6 +32,7 @@ fn fill(t: &[u8], n: usize, out: &mut [u8])
 
 // The string of a literal token, from the start of `out` on. What is no literal that a listing writes is Question::Literal, a list that is too
 // short Question::TextRoom; then nothing is changed.
+#[tactic(auto, using(crate::proofs::Answered::given_back))]
 pub fn read_literal(kind: u8, text: &[u8], out: &mut [u8]) -> Result<Values, Question>
     ensures { Returns kind text.now out.old out.new result }
 {

@@ -3,11 +3,8 @@
 use mathlib.Core.Bool.{true}
 use native.Mathlib.Omega.{arith}
 use Rattle.text.specs.NumberLaws.{hex_digits_length}
-use Rattle.csv_rows.proofs.Digits.{hex_turn, hex_end}
+use Rattle.csv_rows.proofs.Digits.{hex_end}
 use Rattle.csv_rows.proofs.numbers.put_sixteen.Goals as goal
-
-pub loop-i-preserved : goal.loop-i-preserved
-loop-i-preserved c = hex_turn c.loop-i.invariant c.loop-i-test.true c.digit_of.ensures c.store.ensures
 
 pub returns : goal.returns
 returns c = record { end = omega (arith, hex_digits_length true 16 c.args.v); text = hex_end c.loop-i.invariant c.loop-i-test.false }

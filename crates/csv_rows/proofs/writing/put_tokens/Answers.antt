@@ -1,11 +1,8 @@
 -- Tokens one behind the other: `put_tokens` meets its contract.
 -- What is left from here is one token and what is left behind it.
-use Rattle.csv_rows.proofs.Going.{going, go_turn, go_end}
+use Rattle.csv_rows.proofs.Going.{go_turn, go_end}
 use Rattle.csv_rows.proofs.Rows.{tokens_more, tokens_none, token_room}
 use Rattle.csv_rows.proofs.writing.put_tokens.Goals as goal
-
-pub loop-j-init : goal.loop-j-init
-loop-j-init c = (going, rw (← c.l.view_is) c.end_at-x.ensures)
 
 pub put_token-p-requires : goal.put_token-p-requires
 put_token-p-requires c =
