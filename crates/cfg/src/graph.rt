@@ -86,7 +86,7 @@ pub fn last_in(blocks: &[u16], k: Place) -> u32
     ensures { (result ≡ last_in blocks.now k.0) × (result < 131072) }
 {
     let after = first_in(blocks, k) as u32 + count_in(blocks, k) as u32;
-    if after == 0 { 0 } else { after - 1 }
+    after.saturating_sub(1)
 }
 
 pub fn has_condition(blocks: &[u16], j: Place) -> bool

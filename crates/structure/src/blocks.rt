@@ -6,7 +6,7 @@ ghost use Rattle.structure.specs.Looks.{label_looks};
 ghost use Rattle.structure.specs.Codes.{codes, head_lines};
 ghost use Rattle.structure.specs.Stored.{Stored, Room};
 
-use crate::lines::{label, one_less, put_line, shown_lines};
+use crate::lines::{label, put_line, shown_lines};
 use cfg::edges::Looked;
 use cfg::graph::{Graph, branch_to, count_in, ending_in, first_in, label_wanted, last_in};
 use cfg::tests::has_outside_jump_to;
@@ -48,7 +48,7 @@ fn body_count(blocks: &[u16], k: Place) -> u32
     let n = count_in(blocks, k) as u32;
     let ending = ending_in(blocks, k);
     if (ending == 2) | (ending == 3) {
-        return one_less(n);
+        return n.saturating_sub(1);
     }
     n
 }

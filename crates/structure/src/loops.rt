@@ -7,7 +7,7 @@ ghost use Rattle.structure.specs.Codes.{codes, do_lines};
 ghost use Rattle.structure.specs.Stored.{Stored, Room};
 
 use crate::blocks::{Written, emit_block};
-use crate::lines::{label, one_less, put_line, shown_lines};
+use crate::lines::{label, put_line, shown_lines};
 use cfg::edges::Looked;
 use cfg::graph::{Graph, count_in, first_in, label_wanted, last_in};
 use cfg::tests::has_outside_jump_to;
@@ -40,7 +40,7 @@ fn test_block(g: &Graph<'_>, j: Place, indent: u32, out: &mut [u64], at: usize) 
     ensures { Stored out.old at (codes (test_block g.now.blocks.now g.now.shown.now j.0 indent)) result out.new }
 {
     let first = first_in(g.blocks, j) as u32;
-    let size = one_less(count_in(g.blocks, j) as u32);
+    let size = u32::from(count_in(g.blocks, j)).saturating_sub(1);
     let wanted = label_wanted(g.blocks, j);
     let n = label(out, at, wanted, j, indent + 1);
     let m = shown_lines(g.shown, j, first, size, indent + 1, out, n);

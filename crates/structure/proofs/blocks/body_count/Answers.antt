@@ -8,7 +8,7 @@ use Rattle.structure.proofs.blocks.body_count.Goals as goal
 pub returns-then-ending : goal.returns-then-ending
 unfolding body_count
 returns-then-ending c =
-    (simp (sym c.ending_in-ending.ensures, c.if-ending.true, sym c.count_in-n.ensures.0, c.one_less.ensures), search rules)
+    (simp (sym c.ending_in-ending.ensures, c.if-ending.true, sym c.count_in-n.ensures.0, c.saturating_sub.ensures), search rules)
 
 pub returns : goal.returns
 unfolding body_count
