@@ -42,6 +42,7 @@ fn is_labelled(g: &Graph<'_>, from: Place, i: Place, to: Place) -> Looked
 }
 
 // How many instructions stand before a closing conditional branch or direct jmp.
+#[tactic(auto, unfolding(crate::specs::Plan::body_count))]
 fn body_count(blocks: &[u16], k: Place) -> u32
     ensures { (result ≡ body_count blocks.now k.0) × (result < 65536) }
 {

@@ -16,6 +16,7 @@ fn line_code(what: u64, k: Place, i: u32, indent: u32) -> u64
 }
 
 // One line: what it is, its place, its instruction, its indent.
+#[tactic(auto, unfolding(lists::specs::Put::put))]
 pub fn put_line(out: &mut [u64], at: usize, what: u64, k: Place, i: u32, indent: u32) -> usize
     requires { (what < 16) × (i < 131072) × (indent < 131072) × Room at (line_code what k.0 i indent ∷ []) }
     ensures { Stored out.old at (line_code what k.0 i indent ∷ []) result out.new }

@@ -57,6 +57,7 @@ fn emit_do(g: &Graph<'_>, i: Place, j: Place, indent: u32, out: &mut [u64], at: 
 }
 
 // Whether a do-head has a label.
+#[tactic(auto, unfolding(crate::specs::Looks::head_looks))]
 fn head_labelled(g: &Graph<'_>, i: Place, j: Place) -> Looked
     requires i_le_j { (i.0 ≤ j.0) × (j.0 < g.now.count) }
     ensures found { result.found ≡ head_labelled g.now.blocks.now g.now.edges.now g.now.count i.0 j.0 }
