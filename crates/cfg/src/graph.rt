@@ -66,6 +66,7 @@ pub fn label_wanted(blocks: &[u16], k: Place) -> bool
     element_or(blocks, 8 * k.0 as usize + 4, 0) == 1
 }
 
+#[tactic(auto, unfolding(crate::specs::Graph::ending_in))]
 pub fn ending_in(blocks: &[u16], k: Place) -> u16
     ensures { result ≡ ending_in blocks.now k.0 }
 {
