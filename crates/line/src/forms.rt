@@ -147,6 +147,7 @@ fn jump_form(body: &[u8]) -> u8
 }
 
 // The form of an instruction's own line, where its operands decide it.
+#[tactic(auto, unfolding(crate::specs::Forms::insn_form, crate::specs::Codes::form_number))]
 pub fn insn_form(isa: Isa<'_>, body: &[u8]) -> u8
     requires body_value { by_operands (mnemonic_of body.now) ≡ true }
     ensures { result ≡ form_number (insn_form false body.now) }
@@ -171,6 +172,7 @@ pub fn insn_form(isa: Isa<'_>, body: &[u8]) -> u8
 }
 
 // Whether one of the six instructions before instruction i of its block, whose first is `first`, leaves a value.
+#[tactic(auto, unfolding(crate::specs::Forms::returns_value))]
 pub fn returns_value(isa: Isa<'_>, bodies: &[u8], first: u16, i: u16) -> bool
     ensures { result ≡ returns_value bodies.now first i }
 {

@@ -48,6 +48,7 @@ fn code_accumulator(codes: &mut [u64], tables: Tables<'_>, bits: u16)
 }
 
 // The memory operand as an address, 0 and -1: pieces 136 to 138.
+#[tactic(auto, unfolding(crate::specs::Codes::piece_of, crate::specs::Print::piece_tokens))]
 fn code_value(codes: &mut [u64], tables: Tables<'_>, rec: &[u8], h: Header, body: &[u8], piece: u8)
     requires lent { Lent codes.old h rec.now }
     requires le_piece { (136 ≤ piece) × (piece < 139) }
@@ -64,6 +65,7 @@ fn code_value(codes: &mut [u64], tables: Tables<'_>, rec: &[u8], h: Header, body
 }
 
 // The condition, or the one that it turns into: pieces 139 and 140.
+#[tactic(auto, unfolding(crate::specs::Codes::piece_of, crate::specs::Print::piece_tokens))]
 fn code_tested(
     codes: &mut [u64],
     tables: Tables<'_>,
@@ -112,6 +114,7 @@ fn code_named(
 }
 
 // The registers rax, eax and ecx, from piece 147 on; past the last piece 0.
+#[tactic(auto, unfolding(crate::specs::Codes::piece_of, crate::specs::Print::piece_tokens))]
 fn code_fixed(codes: &mut [u64], tables: Tables<'_>, h: Header, piece: u8)
     requires in_bounds { 5 ≤ length codes.old }
     requires le_piece { 147 ≤ piece }
@@ -130,6 +133,7 @@ fn code_fixed(codes: &mut [u64], tables: Tables<'_>, h: Header, piece: u8)
 }
 
 // The pieces from 145 on.
+#[tactic(auto, unfolding(crate::specs::Codes::piece_of, crate::specs::Print::piece_tokens))]
 fn code_late(
     codes: &mut [u64],
     tables: Tables<'_>,
@@ -155,6 +159,7 @@ fn code_late(
 }
 
 // The pieces that are neither words nor operands.
+#[tactic(auto, unfolding(crate::specs::Codes::piece_of, crate::specs::Print::piece_tokens))]
 fn code_special(
     codes: &mut [u64],
     tables: Tables<'_>,
@@ -186,6 +191,7 @@ fn code_special(
 }
 
 // Operand k: most are registers, memory and small numbers, which no span and no sign can change.
+#[tactic(auto, unfolding(operand::specs::Operand::op_tokens))]
 fn code_operand(codes: &mut [u64], tables: Tables<'_>, rec: &[u8], h: Header, body: &[u8], k: u8)
     requires { Lent codes.old h rec.now }
     ensures { Coded table_bytes rec.now codes.old codes.new (op_tokens h rec.now body.now k) }
@@ -236,6 +242,7 @@ pub fn code_row(
 }
 
 // A piece that is no word.
+#[tactic(auto, unfolding(crate::specs::Codes::piece_of, crate::specs::Print::piece_tokens))]
 fn code_piece(
     codes: &mut [u64],
     tables: Tables<'_>,

@@ -1,8 +1,7 @@
 -- `pieces::code_fixed` meets its contract.
 -- By the number of the piece.
-use native.Mathlib.Omega.{arith}
 use Rattle.operand.proofs.Tokens.{as_tokens}
-use Rattle.line.proofs.PieceTokens.{is_first_fixed, is_second_fixed, is_third_fixed, is_past}
+use Rattle.line.proofs.PieceTokens.{is_first_fixed, is_second_fixed, is_third_fixed}
 use Rattle.line.proofs.pieces.code_fixed.Goals as goal
 
 pub returns-then-piece-eq147 : goal.returns-then-piece-eq147
@@ -19,8 +18,3 @@ pub returns-then-piece-eq149 : goal.returns-then-piece-eq149
 returns-then-piece-eq149 c s site =
     let a = c.args in
     as_tokens (is_third_fixed a.h s site a.piece c.if-piece-eq149.true) (c.code_register-then-piece-eq149.ensures s)
-
-pub returns : goal.returns
-returns c s site =
-    let a = c.args in
-    as_tokens (is_past a.h s site a.piece (omega (arith, c.requires.le_piece, c.if-piece-eq147.false, c.if-piece-eq148.false, c.if-piece-eq149.false))) (c.code_num.ensures _ s)
