@@ -55,13 +55,11 @@ fn code_value(codes: &mut [u64], tables: Tables<'_>, rec: &[u8], h: Header, body
     ensures { (site : Site) → body.now ≡ body_of h rec.now site.at
         → Coded table_bytes rec.now codes.old codes.new (piece_tokens h rec.now site (piece_of piece)) }
 {
-    if piece == 136 {
-        return mem(codes, tables, rec, h, body, false);
+    match piece {
+        136 => mem(codes, tables, rec, h, body, false),
+        137 => code_num(codes, false, 0),
+        _ => code_num(codes, true, 1),
     }
-    if piece == 137 {
-        return code_num(codes, false, 0);
-    }
-    code_num(codes, true, 1)
 }
 
 // The condition, or the one that it turns into: pieces 139 and 140.
@@ -120,16 +118,12 @@ fn code_fixed(codes: &mut [u64], tables: Tables<'_>, h: Header, piece: u8)
     requires le_piece { 147 ≤ piece }
     ensures { (s : List ℕ) (site : Site) → Coded table_bytes s codes.old codes.new (piece_tokens h s site (piece_of piece)) }
 {
-    if piece == 147 {
-        return code_register(codes, tables, 0x50);
+    match piece {
+        147 => code_register(codes, tables, 0x50),
+        148 => code_register(codes, tables, 0x40),
+        149 => code_register(codes, tables, 0x41),
+        _ => code_num(codes, false, 0),
     }
-    if piece == 148 {
-        return code_register(codes, tables, 0x40);
-    }
-    if piece == 149 {
-        return code_register(codes, tables, 0x41);
-    }
-    code_num(codes, false, 0)
 }
 
 // The pieces from 145 on.
@@ -149,13 +143,11 @@ fn code_late(
     requires le_piece { 145 ≤ piece }
     ensures { Coded table_bytes rec.now codes.old codes.new (piece_tokens h rec.now site (piece_of piece)) }
 {
-    if piece == 145 {
-        return code_accumulator(codes, tables, h.bits);
+    match piece {
+        145 => code_accumulator(codes, tables, h.bits),
+        146 => assembly(codes, tables, rec, h, site.at, body),
+        _ => code_fixed(codes, tables, h, piece),
     }
-    if piece == 146 {
-        return assembly(codes, tables, rec, h, site.at, body);
-    }
-    code_fixed(codes, tables, h, piece)
 }
 
 // The pieces that are neither words nor operands.
@@ -175,19 +167,13 @@ fn code_special(
     requires le_piece { 136 ≤ piece }
     ensures { Coded table_bytes rec.now codes.old codes.new (piece_tokens h rec.now site (piece_of piece)) }
 {
-    if piece < 139 {
-        return code_value(codes, tables, rec, h, body, piece);
+    match piece {
+        136..=138 => code_value(codes, tables, rec, h, body, piece),
+        139..=140 => code_tested(codes, tables, rec, h, site, body, piece),
+        141 => arguments(codes, tables, rec, h, site.range, site.at, site.written),
+        142..=144 => code_named(codes, tables, rec, h, site, body, piece),
+        _ => code_late(codes, tables, rec, h, site, body, piece),
     }
-    if piece < 141 {
-        return code_tested(codes, tables, rec, h, site, body, piece);
-    }
-    if piece == 141 {
-        return arguments(codes, tables, rec, h, site.range, site.at, site.written);
-    }
-    if piece < 145 {
-        return code_named(codes, tables, rec, h, site, body, piece);
-    }
-    code_late(codes, tables, rec, h, site, body, piece)
 }
 
 // Operand k: most are registers, memory and small numbers, which no span and no sign can change.
