@@ -52,10 +52,11 @@ fn is_or_ones(body: &[u8]) -> bool
 fn imul_form(count: u8) -> u8
     ensures { result ≡ form_number (imul_form count) }
 {
-    if count == 3 {
-        return 21;
+    match count {
+        0..=1 => 39,
+        3 => 21,
+        _ => 22,
     }
-    if 2 <= count { 22 } else { 39 }
 }
 
 #[tactic(auto, unfolding(crate::specs::Forms::call_form, crate::specs::Codes::form_number))]
@@ -123,13 +124,11 @@ fn logic_form(m: u8, body: &[u8]) -> u8
     requires { (6 ≤ m) × (m ≤ 8) }
     ensures { result ≡ form_number (logic_form m body.now) }
 {
-    if m == 6 {
-        return xor_form(body);
+    match m {
+        6 => xor_form(body),
+        7 => and_form(body),
+        _ => or_form(body),
     }
-    if m == 7 {
-        return and_form(body);
-    }
-    or_form(body)
 }
 
 #[tactic(auto, unfolding(crate::specs::Forms::return_form, crate::specs::Codes::form_number))]
@@ -147,30 +146,24 @@ fn jump_form(body: &[u8]) -> u8
 }
 
 // The form of an instruction's own line, where its operands decide it.
+#[tactic(auto, unfolding(crate::specs::Forms::insn_form, crate::specs::Codes::form_number))]
 pub fn insn_form(isa: Isa<'_>, body: &[u8]) -> u8
     requires body_value { by_operands (mnemonic_of body.now) ≡ true }
     ensures { result ≡ form_number (insn_form false body.now) }
 {
     let m = mnemonic(body);
-    if m == 23 {
-        return call_form(body);
+    match m {
+        6..=8 => logic_form(m, body),
+        20 => imul_form(op_count(body)),
+        23 => call_form(body),
+        25 => jump_form(body),
+        29 => xchg_form(body),
+        _ => cast_form(isa, m, body),
     }
-    if (6 <= m) & (m <= 8) {
-        return logic_form(m, body);
-    }
-    if m == 25 {
-        return jump_form(body);
-    }
-    if m == 20 {
-        return imul_form(op_count(body));
-    }
-    if m == 29 {
-        return xchg_form(body);
-    }
-    cast_form(isa, m, body)
 }
 
 // Whether one of the six instructions before instruction i of its block, whose first is `first`, leaves a value.
+#[tactic(auto, unfolding(crate::specs::Forms::returns_value))]
 pub fn returns_value(isa: Isa<'_>, bodies: &[u8], first: u16, i: u16) -> bool
     ensures { result ≡ returns_value bodies.now first i }
 {

@@ -57,17 +57,11 @@ pub fn op(codes: &mut [u64], tables: Tables<'_>, rec: &[u8], h: Header, body: &[
     ensures { Coded table_bytes rec.now codes.old codes.new (op_tokens h rec.now body.now i) }
 {
     let kind = op_kind(body, i);
-    if kind == 0 {
-        return code_register(codes, tables, op_register(body, i));
+    match kind {
+        0 => code_register(codes, tables, op_register(body, i)),
+        1 => mem(codes, tables, rec, h, body, true),
+        2 => name_or(codes, tables, rec, h, op_number(body, i), LOC),
+        3..=10 => immediate(codes, tables, rec, h, kind, op_number(body, i)),
+        _ => code_word(codes, tables, UNKNOWN),
     }
-    if kind == 1 {
-        return mem(codes, tables, rec, h, body, true);
-    }
-    if kind == 2 {
-        return name_or(codes, tables, rec, h, op_number(body, i), LOC);
-    }
-    if kind <= 10 {
-        return immediate(codes, tables, rec, h, kind, op_number(body, i));
-    }
-    code_word(codes, tables, UNKNOWN)
 }
