@@ -3,7 +3,7 @@ use Rattle.std.specs.Prelude.{ℕ, List, [], ◌∷◌, ◌≡◌, ⊤}
 use Rattle.lists.specs.Put.{put}
 use Rattle.checker.specs.Called.{number_of, broken_of, Checks}
 use Rattle.std.specs.declared.result.Result.{Result}
-use Rattle.checker.specs.Number.{Unfollowed}
+use Rattle.checker.specs.declared.assumption.Unfollowed.{Unfollowed}
 
 -- some answer is promised of the record, and the number and the assumption are that answer's
 pub record RecordChecked (s z z' : List ℕ) (r : ℕ) : Type 0 where

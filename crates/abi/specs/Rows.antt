@@ -1,5 +1,5 @@
 -- What the two calls for rows promise to callers in other languages: a number, the lists, and the sizes in lists of their own.
-use Rattle.std.specs.Prelude.{ℕ, List, [], ◌∷◌, ◌≡◌, length, get_or}
+use Rattle.std.specs.Prelude.{ℕ, List, ◌≡◌, length, get_or}
 use Rattle.std.specs.declared.result.Result.{Result}
 use Rattle.lists.specs.Put.{put}
 use Rattle.lists.specs.Question.{number_of}

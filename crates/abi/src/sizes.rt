@@ -32,7 +32,10 @@ pub fn put_bytes(size: &mut [u64], answer: Result<usize, Question>) -> u8
     ensures number { result ≡ number_of answer }
     ensures size { size.new ≡ put 0 (bytes_list answer) size.old }
 {
-    put_values(size, answer.map(|n| [n as u64]))
+    match answer {
+        Ok(n) => put_values(size, Ok([n as u64])),
+        Err(q) => put_values::<1>(size, Err(q)),
+    }
 }
 
 // The sizes of an answer.
@@ -40,10 +43,10 @@ pub fn put_answer(sizes: &mut [u64], answer: Result<Sizes, Question>) -> u8
     ensures number { result ≡ number_of answer }
     ensures sizes { sizes.new ≡ put 0 (size_list answer) sizes.old }
 {
-    put_values(
-        sizes,
-        answer.map(|z| [z.text as u64, z.tokens as u64, z.lines as u64]),
-    )
+    match answer {
+        Ok(z) => put_values(sizes, Ok([z.text as u64, z.tokens as u64, z.lines as u64])),
+        Err(q) => put_values::<3>(sizes, Err(q)),
+    }
 }
 
 // The sizes and behind them the looks; answers the number.

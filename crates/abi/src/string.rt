@@ -13,10 +13,13 @@ fn put_string(values: &mut [u64], answer: Result<Values, Question>) -> u8
     ensures number { result ≡ number_of answer }
     ensures values { values.new ≡ put 0 (value_list answer) values.old }
 {
-    put_values(
-        values,
-        answer.map(|s| [s.count as u64, u64::from(s.wide), u64::from(s.cut)]),
-    )
+    match answer {
+        Ok(s) => put_values(
+            values,
+            Ok([s.count as u64, u64::from(s.wide), u64::from(s.cut)]),
+        ),
+        Err(q) => put_values::<3>(values, Err(q)),
+    }
 }
 
 // The string of a literal token: answers 0, 17 or 12. Nothing is demanded of the caller.

@@ -17,7 +17,10 @@ fn put_counts(counts: &mut [u64], answer: Result<Size, Question>) -> u8
     ensures number { result ≡ number_of answer }
     ensures counts { counts.new ≡ put 0 (count_list answer) counts.old }
 {
-    put_values(counts, answer.map(|t| [t.bytes as u64, t.rows as u64]))
+    match answer {
+        Ok(t) => put_values(counts, Ok([t.bytes as u64, t.rows as u64])),
+        Err(q) => put_values::<2>(counts, Err(q)),
+    }
 }
 
 // The command table of lists of these sizes: answers 0, 19, 16 or 12 to 14. Nothing is demanded of the caller.
