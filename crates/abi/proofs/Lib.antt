@@ -1,5 +1,2 @@
-pub mod Cases
 pub mod Exports
-pub mod Rows
-pub mod Strings
 pub mod Tables

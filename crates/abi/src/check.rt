@@ -4,28 +4,22 @@ ghost use Rattle.lists.specs.Put.{put};
 ghost use Rattle.checker.specs.Called.{number_of, broken_of};
 ghost use Rattle.abi.specs.Checks.{RecordChecked};
 
-use checker::check::{Checked, check_record};
-use lists::stores::store;
+use checker::assumption::Unfollowed;
+use checker::check::check_record;
+use lists::stores::put_slice;
 
-// The assumption that is broken, 0 if none is and with a number; answers the number.
-fn put_broken(broken: &mut [u64], answer: Checked) -> u8
+// The number of the assumption that is broken, 0 if none is and with a number; answers the number.
+fn put_broken(broken: &mut [u64], answer: Result<(), Unfollowed>) -> u8
     ensures number { result ≡ number_of answer }
     ensures broken { broken.new ≡ put 0 (broken_of answer ∷ []) broken.old }
 {
-    match answer {
-        Checked::Follows => {
-            store(broken, 0, 0);
-            0
-        }
-        Checked::Broken(n) => {
-            store(broken, 0, n as u64);
-            0
-        }
-        Checked::No(n) => {
-            store(broken, 0, 0);
-            n
-        }
-    }
+    let (number, assumption) = match answer {
+        Ok(()) => (0, 0),
+        Err(Unfollowed::Breaks(a)) => (0, u8::from(a)),
+        Err(Unfollowed::No(q)) => (u8::from(q), 0),
+    };
+    put_slice(broken, &[u64::from(assumption)]);
+    number
 }
 
 // Whether a record's listing may be followed: answers 0, or the number of the first question before 12 that gets a no. Nothing is

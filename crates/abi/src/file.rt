@@ -1,16 +1,14 @@
 // The two calls for rows over numbers and lists, as C has them.
-ghost use Rattle.std.specs.Prelude.{[], ◌∷◌, ◌≡◌};
-ghost use Rattle.lists.specs.Put.{put};
+ghost use Rattle.std.specs.Prelude.{◌≡◌};
 ghost use Rattle.rows.specs.Lists.{lists_of};
-ghost use Rattle.csv_rows.specs.Called.{written_number, written_size};
 ghost use Rattle.abi.specs.Rows.{sizes_in, RowsWritten, RowsRead};
 
-use crate::sizes::put_answer;
+use crate::sizes::{put_answer, put_bytes};
 use csv_rows::reading::read_rows;
-use csv_rows::writing::{Written, write_rows};
+use csv_rows::writing::write_rows;
 use lists::reads::element_or;
-use lists::stores::store;
 use rows::answer::Sizes;
+use rows::listing::Listing;
 
 // The sizes that a list of text bytes, tokens and lines has.
 pub fn sizes_in(sizes: &[u64]) -> Sizes
@@ -20,23 +18,6 @@ pub fn sizes_in(sizes: &[u64]) -> Sizes
         text: element_or(sizes, 0, 0) as usize,
         tokens: element_or(sizes, 1, 0) as usize,
         lines: element_or(sizes, 2, 0) as usize,
-    }
-}
-
-// The size of the file, zero with a number; answers the number.
-fn put_written(size: &mut [u64], answer: Written) -> u8
-    ensures number { result ≡ written_number answer }
-    ensures size { size.new ≡ put 0 (written_size answer ∷ []) size.old }
-{
-    match answer {
-        Written::File(n) => {
-            store(size, 0, n as u64);
-            0
-        }
-        Written::No(n) => {
-            store(size, 0, 0);
-            n
-        }
     }
 }
 
@@ -57,9 +38,16 @@ pub fn cakirotu_write_rows(
         (lists_of text.now ends.now kinds.now addresses.now marks.now places.now lines.now)
         sizes.now out.old out.new size.old size.new result }
 {
-    let z = sizes_in(sizes);
-    let answer = write_rows(text, ends, kinds, addresses, marks, places, lines, z, out);
-    put_written(size, answer)
+    let l = Listing {
+        text,
+        ends,
+        kinds,
+        addresses,
+        marks,
+        places,
+        lines,
+    };
+    put_bytes(size, write_rows(&l, sizes_in(sizes), out))
 }
 
 // Reads a file of rows into lists: answers 0, 16 or 12 to 14. Nothing is demanded of the caller.

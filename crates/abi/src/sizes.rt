@@ -1,36 +1,51 @@
 // The answers beside a number, in a list, as C has them.
-ghost use Rattle.std.specs.Prelude.{[], ◌∷◌, ◌≡◌};
+ghost use Rattle.std.specs.Prelude.{◌≡◌};
 ghost use Rattle.lists.specs.Put.{put};
-ghost use Rattle.rows.specs.Lists.{number_of};
-ghost use Rattle.abi.specs.Exported.{size_list, answer_list};
+ghost use Rattle.lists.specs.Question.{number_of};
+ghost use Rattle.abi.specs.Exported.{values_in, size_list, answer_list};
+ghost use Rattle.abi.specs.Stores.{bytes_list};
 
-use lists::stores::store;
+use lists::question::Question;
+use lists::stores::{put_slice, store};
 use pseudo::answered::Answered;
-use rows::answer::Answer;
+use rows::answer::Sizes;
 
-// Three numbers from the start of the list on.
-pub fn put_three(list: &mut [u64], a: u64, b: u64, c: u64)
-    ensures { list.new ≡ put 0 (a ∷ b ∷ c ∷ []) list.old }
+// The values of an answer from the start of the list on, zeros with a number; answers the number.
+pub fn put_values<const N: usize>(list: &mut [u64], answer: Result<[u64; N], Question>) -> u8
+    ensures number { result ≡ number_of answer.entry }
+    ensures values { list.new ≡ put 0 (values_in N answer.entry) list.old }
 {
-    store(list, 0, a);
-    store(list, 1, b);
-    store(list, 2, c);
+    match answer {
+        Ok(values) => {
+            put_slice(list, &values);
+            0
+        }
+        Err(q) => {
+            put_slice(list, &[0; N]);
+            u8::from(q)
+        }
+    }
 }
 
-// The sizes of an answer, zeros with a number; answers the number.
-pub fn put_answer(sizes: &mut [u64], answer: Answer) -> u8
+// How many bytes are stored.
+pub fn put_bytes(size: &mut [u64], answer: Result<usize, Question>) -> u8
+    ensures number { result ≡ number_of answer }
+    ensures size { size.new ≡ put 0 (bytes_list answer) size.old }
+{
+    match answer {
+        Ok(n) => put_values(size, Ok([n as u64])),
+        Err(q) => put_values::<1>(size, Err(q)),
+    }
+}
+
+// The sizes of an answer.
+pub fn put_answer(sizes: &mut [u64], answer: Result<Sizes, Question>) -> u8
     ensures number { result ≡ number_of answer }
     ensures sizes { sizes.new ≡ put 0 (size_list answer) sizes.old }
 {
     match answer {
-        Answer::Listed(z) => {
-            put_three(sizes, z.text as u64, z.tokens as u64, z.lines as u64);
-            0
-        }
-        Answer::No(n) => {
-            put_three(sizes, 0, 0, 0);
-            n
-        }
+        Ok(z) => put_values(sizes, Ok([z.text as u64, z.tokens as u64, z.lines as u64])),
+        Err(q) => put_values::<3>(sizes, Err(q)),
     }
 }
 
@@ -39,8 +54,7 @@ pub fn put_answered(sizes: &mut [u64], r: Answered) -> u8
     ensures number { result ≡ number_of r.answer }
     ensures sizes { sizes.new ≡ put 0 (answer_list r.answer r.looks) sizes.old }
 {
-    let answer = r.answer;
-    let number = put_answer(sizes, answer);
+    let number = put_answer(sizes, r.answer);
     store(sizes, 3, r.looks);
     number
 }

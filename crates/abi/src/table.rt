@@ -1,37 +1,25 @@
 // The command table over numbers and lists, as C has them.
-ghost use Rattle.std.specs.Prelude.{[], ◌∷◌, ◌≡◌};
+ghost use Rattle.std.specs.Prelude.{◌≡◌};
 ghost use Rattle.lists.specs.Put.{put};
 ghost use Rattle.rows.specs.Lists.{lists_of};
-ghost use Rattle.commands.specs.Called.{number_of};
+ghost use Rattle.lists.specs.Question.{number_of};
 ghost use Rattle.commands.specs.Table.{table_lists};
 ghost use Rattle.abi.specs.Tables.{count_list, TableMade};
 
 use crate::file::sizes_in;
-use commands::table::{Tabled, command_table};
-use lists::stores::store;
+use crate::sizes::put_values;
+use commands::table::{Size, command_table};
+use lists::question::Question;
+use rows::listing::Listing;
 
-// Two numbers from the start of the list on.
-fn put_two(list: &mut [u64], a: u64, b: u64)
-    ensures { list.new ≡ put 0 (a ∷ b ∷ []) list.old }
-{
-    store(list, 0, a);
-    store(list, 1, b);
-}
-
-// How many bytes and rows the table has, zeros with a number; answers the number.
-fn put_counts(counts: &mut [u64], answer: Tabled) -> u8
+// How many bytes and rows the table has.
+fn put_counts(counts: &mut [u64], answer: Result<Size, Question>) -> u8
     ensures number { result ≡ number_of answer }
     ensures counts { counts.new ≡ put 0 (count_list answer) counts.old }
 {
     match answer {
-        Tabled::Entries(bytes, rows) => {
-            put_two(counts, bytes as u64, rows as u64);
-            0
-        }
-        Tabled::No(n) => {
-            put_two(counts, 0, 0);
-            n
-        }
+        Ok(t) => put_values(counts, Ok([t.bytes as u64, t.rows as u64])),
+        Err(q) => put_values::<2>(counts, Err(q)),
     }
 }
 
@@ -58,9 +46,15 @@ pub fn cakirotu_command_table(
         (table_lists bytes.old rows.old calls.old) (table_lists bytes.new rows.new calls.new)
         counts.old counts.new result }
 {
-    let z = sizes_in(sizes);
-    let answer = command_table(
-        text, ends, kinds, addresses, marks, places, lines, z, call, register, bytes, rows, calls,
-    );
+    let l = Listing {
+        text,
+        ends,
+        kinds,
+        addresses,
+        marks,
+        places,
+        lines,
+    };
+    let answer = command_table(&l, sizes_in(sizes), call, register, bytes, rows, calls);
     put_counts(counts, answer)
 }

@@ -71,6 +71,11 @@ any_first q k (suc n) =
 
 -- Edges
 
+-- none passes where each was told not to
+pub none_until : (p : ℕ → Bool) (e m : ℕ) → ((j : ℕ) → j < m → p (e + j) ≡ false) → any_below (λ j. p (e + j)) m ≡ false
+none_until p e zero h = refl
+none_until p e (suc m) h = ap₂ ◌||◌ (none_until p e m (λ j l. h j (omega arith))) (h m (omega arith))
+
 module _ (p : ℕ → Bool) where
   abbrev edge : ℕ → Looked
   edge e = looked (p e) 1

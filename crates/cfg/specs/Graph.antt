@@ -3,8 +3,6 @@
 use Rattle.std.specs.Prelude.{ℕ, ◌+◌, ◌-◌, ◌*◌, List, Bool, not, ◌&&◌, ◌||◌, ltb, eqb, get_or}
 use Rattle.lists.specs.Choice.{pick, any_below}
 use Rattle.lists.specs.Bytes.{u64_at}
-use Rattle.cfg.specs.declared.edges.Wanted.{Wanted}
-use Rattle.cfg.specs.declared.edges.Wanted.TheVariants.{TrueTo, Between, JumpTo}
 
 -- a row of `blocks`: first instruction, number of instructions, first edge, number of edges, label wanted, how the block
 -- ends, place of its branch's target (65535 if that is no block), 0
@@ -90,12 +88,6 @@ enters edges from to e = ltb from (edge_to edges e) && ltb (edge_to edges e) to
 -- "an edge to it not of kind Fall"
 abbrev pub jump_to : List ℕ → ℕ → ℕ → Bool
 jump_to edges i e = goes_to edges i e && not (eqb (edge_kind edges e) fall_kind)
-
--- one of the three, by what is wanted
-abbrev pub passes : List ℕ → Wanted → ℕ → Bool
-passes edges (TrueTo i) e = true_edge_to edges i.0 e
-passes edges (Between from to) e = enters edges from.0 to.0 e
-passes edges (JumpTo i) e = jump_to edges i.0 e
 
 -- an "edge .. to an address below its first start, the target excepted": starts and targets are addresses, the parts of the
 -- record that begin at them; the first block is at place `from`, the target at place `join`

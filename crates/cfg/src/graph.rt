@@ -1,11 +1,28 @@
 // The rows of a record's blocks, edges and instructions, read as document 01 speaks of them.
-ghost use Rattle.std.specs.Prelude.{◌≡◌, ◌<◌, ◌≤◌};
+ghost use Rattle.std.specs.Prelude.{◌≡◌, ℕ, get_or, ◌*◌, ◌<◌, ◌≤◌, length};
 ghost use Rattle.cfg.specs.Graph.{first_in, count_in, first_edge_in, edges_in, label_wanted, ending_in, branch_to, last_in, is_shown, has_condition};
-ghost use Rattle.cfg.specs.Turn.{edges_before};
+ghost use Rattle.cfg.specs.Turn.{InTurn, edges_before};
 ghost use Rattle.cfg.specs.Reads.{Turns};
 
 use lists::reads::{element_or, u8_at};
 use record::blocks::Place;
+
+// The rows of a record's blocks, edges and instructions, and the parts of the record that begin at the blocks' starts and at the edges'
+// targets: the edges stand block by block, and each has a target. The last two facts are what the types say, kept for proofs that have
+// it by reference.
+#[derive(Clone, Copy)]
+pub struct Graph<'a> {
+    pub blocks: &'a [u16],
+    pub edges: &'a [u16],
+    pub shown: &'a [u8],
+    pub starts: &'a [u8],
+    pub targets: &'a [u8],
+    pub count: u16,
+    pub ghost in_turn: { InTurn blocks.now edges.now count },
+    pub ghost in_bounds: { 8 * edges_before blocks.now count ≤ length targets.now },
+    pub ghost count_fits: { count < 65536 },
+    pub ghost blocks_fit: { (k : ℕ) → get_or blocks.now k 0 < 65536 },
+}
 
 pub fn first_in(blocks: &[u16], k: Place) -> u16
     ensures { (result ≡ first_in blocks.now k.0) × (result < 65536) }
@@ -49,6 +66,7 @@ pub fn label_wanted(blocks: &[u16], k: Place) -> bool
     element_or(blocks, 8 * k.0 as usize + 4, 0) == 1
 }
 
+#[tactic(auto, unfolding(crate::specs::Graph::ending_in))]
 pub fn ending_in(blocks: &[u16], k: Place) -> u16
     ensures { result ≡ ending_in blocks.now k.0 }
 {
@@ -69,7 +87,7 @@ pub fn last_in(blocks: &[u16], k: Place) -> u32
     ensures { (result ≡ last_in blocks.now k.0) × (result < 131072) }
 {
     let after = first_in(blocks, k) as u32 + count_in(blocks, k) as u32;
-    if after == 0 { 0 } else { after - 1 }
+    after.saturating_sub(1)
 }
 
 pub fn has_condition(blocks: &[u16], j: Place) -> bool

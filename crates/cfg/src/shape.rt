@@ -7,7 +7,7 @@ ghost use Rattle.cfg.specs.Looks.{search_looks, entry_looks, escape_looks, regio
 ghost use Rattle.cfg.specs.Shape.{last_loop, opens_region, region_at, shape_at};
 
 use crate::edges::Looked;
-use crate::graph::{branch_to, edges_before, ending_in, first_edge_in};
+use crate::graph::{Graph, branch_to, edges_before, ending_in, first_edge_in};
 use crate::tests::{closes_loop, enters_inside, region_escapes};
 use record::blocks::Place;
 
@@ -35,18 +35,18 @@ struct Sought {
 
 // The last block from place i on, before `to`, that closes a loop to i. Each block's edges end where those of the block read before
 // it begin.
-fn last_loop(blocks: &[u16], edges: &[u16], i: Place, to: Place) -> Sought
-    requires { InTurn blocks.now edges.now to.0 }
-    ensures found { result.place ≡ last_loop blocks.now edges.now i.0 to.0 }
-    ensures looks { (result.looks ≡ search_looks blocks.now edges.now i.0 (to.0 - i.0)) × (result.looks ≤ 131070) }
+fn last_loop(g: &Graph<'_>, i: Place, to: Place) -> Sought
+    requires { to.0 ≤ g.now.count }
+    ensures found { result.place ≡ last_loop g.now.blocks.now g.now.edges.now i.0 to.0 }
+    ensures looks { (result.looks ≡ search_looks g.now.blocks.now g.now.edges.now i.0 (to.0 - i.0)) × (result.looks ≤ 131070) }
 {
-    let mut end = edges_before(blocks, to);
+    let mut end = edges_before(g.blocks, to);
     let mut looks: u64 = 0;
     let mut j = to.0;
     while i.0 < j {
         j -= 1;
-        let e = first_edge_in(blocks, Place(j)) as usize;
-        let read = closes_loop(blocks, edges, i, Place(j), e, end - e);
+        let e = first_edge_in(g.blocks, Place(j)) as usize;
+        let read = closes_loop(g.blocks, g.edges, i, Place(j), e, end - e);
         looks += read.looks;
         if read.found {
             return Sought {
@@ -60,14 +60,13 @@ fn last_loop(blocks: &[u16], edges: &[u16], i: Place, to: Place) -> Sought
 }
 
 // A loop from i to j has more than one block, and is entered only at i.
-fn is_loop(blocks: &[u16], edges: &[u16], count: u16, i: Place, j: Place) -> Looked
-    requires in_turn { InTurn blocks.now edges.now count }
-    requires j_lt_count { j.0 < count }
-    ensures found { result.found ≡ (ltb i.0 j.0 && single_entry blocks.now edges.now count i.0 (j.0 + 1)) }
-    ensures looks { (result.looks ≡ pick (ltb i.0 j.0) (entry_looks blocks.now edges.now count i.0 (j.0 + 1)) 0) × (result.looks ≤ 131070) }
+fn is_loop(g: &Graph<'_>, i: Place, j: Place) -> Looked
+    requires j_lt_count { j.0 < g.now.count }
+    ensures found { result.found ≡ (ltb i.0 j.0 && single_entry g.now.blocks.now g.now.edges.now g.now.count i.0 (j.0 + 1)) }
+    ensures looks { (result.looks ≡ pick (ltb i.0 j.0) (entry_looks g.now.blocks.now g.now.edges.now g.now.count i.0 (j.0 + 1)) 0) × (result.looks ≤ 131070) }
 {
     if i < j {
-        let entry = enters_inside(blocks, edges, count, i, Place(j.0 + 1));
+        let entry = enters_inside(g.blocks, g.edges, g.count, i, Place(j.0 + 1));
         return Looked {
             found: !entry.found,
             looks: entry.looks,
@@ -80,28 +79,19 @@ fn is_loop(blocks: &[u16], edges: &[u16], count: u16, i: Place, j: Place) -> Loo
 }
 
 // The places from `from` up to t are entered only at the first, and do not escape.
-fn is_region(
-    blocks: &[u16],
-    edges: &[u16],
-    starts: &[u8],
-    targets: &[u8],
-    count: u16,
-    from: Place,
-    t: Place,
-) -> Looked
-    requires in_turn { InTurn blocks.now edges.now count }
-    requires from_le_t { (from.0 ≤ t.0) × (t.0 ≤ count) × (8 * edges_before blocks.now count ≤ length targets.now) }
-    ensures found { result.found ≡ (single_entry blocks.now edges.now count from.0 t.0 && not (escapes blocks.now starts.now targets.now from.0 t.0)) }
-    ensures looks { (result.looks ≡ entry_looks blocks.now edges.now count from.0 t.0 + pick (single_entry blocks.now edges.now count from.0 t.0) (escape_looks blocks.now starts.now targets.now from.0 t.0) 0) × (result.looks ≤ 262140) }
+fn is_region(g: &Graph<'_>, from: Place, t: Place) -> Looked
+    requires from_le_t { (from.0 ≤ t.0) × (t.0 ≤ g.now.count) }
+    ensures found { result.found ≡ (single_entry g.now.blocks.now g.now.edges.now g.now.count from.0 t.0 && not (escapes g.now.blocks.now g.now.starts.now g.now.targets.now from.0 t.0)) }
+    ensures looks { (result.looks ≡ entry_looks g.now.blocks.now g.now.edges.now g.now.count from.0 t.0 + pick (single_entry g.now.blocks.now g.now.edges.now g.now.count from.0 t.0) (escape_looks g.now.blocks.now g.now.starts.now g.now.targets.now from.0 t.0) 0) × (result.looks ≤ 262140) }
 {
-    let entry = enters_inside(blocks, edges, count, from, t);
+    let entry = enters_inside(g.blocks, g.edges, g.count, from, t);
     if entry.found {
         return Looked {
             found: false,
             looks: entry.looks,
         };
     }
-    let escape = region_escapes(blocks, starts, targets, from, t);
+    let escape = region_escapes(g.blocks, g.starts, g.targets, from, t);
     Looked {
         found: !escape.found,
         looks: entry.looks + escape.looks,
@@ -109,25 +99,16 @@ fn is_region(
 }
 
 // An if-region stands at place i of a range up to `to`.
-fn opens_region(
-    blocks: &[u16],
-    edges: &[u16],
-    starts: &[u8],
-    targets: &[u8],
-    count: u16,
-    i: Place,
-    to: Place,
-) -> Looked
-    requires in_turn { InTurn blocks.now edges.now count }
-    requires to_le_count { (to.0 ≤ count) × (8 * edges_before blocks.now count ≤ length targets.now) }
-    ensures found { result.found ≡ opens_region blocks.now edges.now starts.now targets.now count i.0 to.0 }
-    ensures looks { (result.looks ≡ region_looks blocks.now edges.now starts.now targets.now count i.0 to.0) × (result.looks ≤ 262140) }
+fn opens_region(g: &Graph<'_>, i: Place, to: Place) -> Looked
+    requires to_le_count { to.0 ≤ g.now.count }
+    ensures found { result.found ≡ opens_region g.now.blocks.now g.now.edges.now g.now.starts.now g.now.targets.now g.now.count i.0 to.0 }
+    ensures looks { (result.looks ≡ region_looks g.now.blocks.now g.now.edges.now g.now.starts.now g.now.targets.now g.now.count i.0 to.0) × (result.looks ≤ 262140) }
 {
-    let t = branch_to(blocks, i);
-    if ending_in(blocks, i) == 2 {
+    let t = branch_to(g.blocks, i);
+    if ending_in(g.blocks, i) == 2 {
         if i.0 as u32 + 1 < t.0 as u32 {
             if t.0 <= to.0 {
-                return is_region(blocks, edges, starts, targets, count, Place(i.0 + 1), t);
+                return is_region(g, Place(i.0 + 1), t);
             }
         }
     }
@@ -138,25 +119,15 @@ fn opens_region(
 }
 
 // An if-region or a plain block, behind a search for a loop that read some edges.
-fn region_at(
-    blocks: &[u16],
-    edges: &[u16],
-    starts: &[u8],
-    targets: &[u8],
-    count: u16,
-    i: Place,
-    to: Place,
-    looks: u64,
-) -> Seen
-    requires in_turn { InTurn blocks.now edges.now count }
-    requires to_le_count { (to.0 ≤ count) × (8 * edges_before blocks.now count ≤ length targets.now) × (looks ≤ 262140) }
-    ensures shape { result.shape ≡ region_at blocks.now edges.now starts.now targets.now count i.0 to.0 }
-    ensures looks { result.looks ≡ looks + region_looks blocks.now edges.now starts.now targets.now count i.0 to.0 }
+fn region_at(g: &Graph<'_>, i: Place, to: Place, looks: u64) -> Seen
+    requires to_le_count { (to.0 ≤ g.now.count) × (looks ≤ 262140) }
+    ensures shape { result.shape ≡ region_at g.now.blocks.now g.now.edges.now g.now.starts.now g.now.targets.now g.now.count i.0 to.0 }
+    ensures looks { result.looks ≡ looks + region_looks g.now.blocks.now g.now.edges.now g.now.starts.now g.now.targets.now g.now.count i.0 to.0 }
 {
-    let region = opens_region(blocks, edges, starts, targets, count, i, to);
+    let region = opens_region(g, i, to);
     if region.found {
         return Seen {
-            shape: Shape::Region(branch_to(blocks, i)),
+            shape: Shape::Region(branch_to(g.blocks, i)),
             looks: looks + region.looks,
         };
     }
@@ -167,26 +138,17 @@ fn region_at(
 }
 
 // What stands at place i of a range up to `to`. No shorter loop is tried.
-pub fn shape_at(
-    blocks: &[u16],
-    edges: &[u16],
-    starts: &[u8],
-    targets: &[u8],
-    count: u16,
-    i: Place,
-    to: Place,
-) -> Seen
-    requires in_turn { InTurn blocks.now edges.now count }
-    requires i_lt_to { (i.0 < to.0) × (to.0 ≤ count) × (8 * edges_before blocks.now count ≤ length targets.now) }
-    ensures shape { result.shape ≡ shape_at blocks.now edges.now starts.now targets.now count i.0 to.0 }
-    ensures looks { (result.looks ≡ shape_looks blocks.now edges.now starts.now targets.now count i.0 to.0) × (result.looks ≤ 4 * edges_before blocks.now count) }
+pub fn shape_at(g: &Graph<'_>, i: Place, to: Place) -> Seen
+    requires i_lt_to { (i.0 < to.0) × (to.0 ≤ g.now.count) }
+    ensures shape { result.shape ≡ shape_at g.now.blocks.now g.now.edges.now g.now.starts.now g.now.targets.now g.now.count i.0 to.0 }
+    ensures looks { (result.looks ≡ shape_looks g.now.blocks.now g.now.edges.now g.now.starts.now g.now.targets.now g.now.count i.0 to.0) × (result.looks ≤ 4 * edges_before g.now.blocks.now g.now.count) }
 {
-    let sought = last_loop(blocks, edges, i, to);
+    let sought = last_loop(g, i, to);
     let looks = sought.looks;
     let found = sought.place;
     match found {
         Some(j) => {
-            let test = is_loop(blocks, edges, count, i, j);
+            let test = is_loop(g, i, j);
             let read = looks + test.looks;
             if test.found {
                 return Seen {
@@ -194,8 +156,8 @@ pub fn shape_at(
                     looks: read,
                 };
             }
-            region_at(blocks, edges, starts, targets, count, i, to, read)
+            region_at(g, i, to, read)
         }
-        None => region_at(blocks, edges, starts, targets, count, i, to, looks),
+        None => region_at(g, i, to, looks),
     }
 }

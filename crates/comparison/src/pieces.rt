@@ -9,7 +9,7 @@ ghost use Rattle.comparison.specs.Pieces.{answer, chosen_tokens, line_answer, ha
 use crate::questions::record_first_no;
 use codes::read::codes_of;
 use codes::state::{put_end, start};
-use codes::tables::tables;
+use codes::tables::{Tables, token_table};
 use expressions::condition::{body_of, condition};
 use operand::memory::mem;
 use operand::operand::op;
@@ -19,15 +19,15 @@ use writer::write::write_listing;
 // What is asked for: an operand, the memory operand read or as an address, or a condition.
 fn code_chosen(
     codes: &mut [u64],
-    tables: &[u8],
+    tables: Tables<'_>,
     rec: &[u8],
     h: Header,
     first: u16,
     instruction: u16,
     what: u8,
 )
-    requires { Lent codes.old tables.now h rec.now }
-    ensures { Coded tables.now rec.now codes.old codes.new (chosen_tokens h rec.now first instruction what) }
+    requires { Lent codes.old h rec.now }
+    ensures { Coded table_bytes rec.now codes.old codes.new (chosen_tokens h rec.now first instruction what) }
 {
     if 16 <= what {
         return condition(codes, tables, rec, h, first, instruction, what - 16);
@@ -42,16 +42,16 @@ fn code_chosen(
 // The same as a line of its own: it has at most 81 codes.
 fn code_piece(
     codes: &mut [u64],
-    tables: &[u8],
+    tables: Tables<'_>,
     rec: &[u8],
     h: Header,
     first: u16,
     instruction: u16,
     what: u8,
 )
-    requires lent { Lent codes.old tables.now h rec.now }
+    requires lent { Lent codes.old h rec.now }
     requires in_bounds { 86 ≤ length codes.old }
-    ensures { LineCoded tables.now rec.now codes.new (chosen_tokens h rec.now first instruction what) }
+    ensures { LineCoded table_bytes rec.now codes.new (chosen_tokens h rec.now first instruction what) }
 {
     start(codes);
     code_chosen(codes, tables, rec, h, first, instruction, what);
@@ -75,15 +75,15 @@ fn write_piece(
         (line_answer (chosen_tokens h rec.now first instruction what) text.old ends.old kinds.old)
         (answer text.old ends.old kinds.old 0) }
 {
-    let made = tables();
-    let table: &[u8] = &made;
+    let made = token_table();
+    let table = Tables { bytes: &made };
     let mut codes = [0u64; 86];
     code_piece(&mut codes, table, rec, h, first, instruction, what);
     let bytes = codes[0] as usize;
     let tokens = codes[1] as usize;
     if (bytes <= text.len()) & (tokens <= ends.len()) & (tokens <= kinds.len()) {
         let mut lines = [0u32; 1];
-        write_listing(text, ends, kinds, &mut lines, table, rec, codes_of(&codes));
+        write_listing(text, ends, kinds, &mut lines, table.bytes, rec, codes_of(&codes));
         return bytes as u64 * 4294967296 + tokens as u64;
     }
     0

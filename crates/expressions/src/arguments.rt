@@ -27,6 +27,7 @@ use x86::table::Isa;
 use x86::width::passes_registers;
 
 // The registers written once an instruction's own line is there: a call clears the mask.
+#[tactic(auto, unfolding(crate::specs::Arguments::written_after))]
 pub fn written_after(isa: Isa<'_>, mask: u16, body: &[u8]) -> u16
     ensures { result ≡ written_after mask body.now }
 {
@@ -47,6 +48,7 @@ enum PushPart {
     Neither,
 }
 
+#[tactic(auto, unfolding(crate::specs::Arguments::is_unskipped))]
 fn push_part(isa: Isa<'_>, bodies: &[u8], bits: u16, frame: u16, i: u16) -> PushPart
     ensures { result ≡ pick (is_unskipped bits frame bodies.now call i) Call (pick (is_unskipped bits frame bodies.now push i) Push Neither) }
 {
@@ -138,6 +140,7 @@ fn pushed_arguments(
 }
 
 // The arguments at instruction i of a range whose first instruction is `first`.
+#[tactic(auto, unfolding(crate::specs::Arguments::argument_tokens))]
 pub fn arguments(
     codes: &mut [u64],
     tables: Tables<'_>,

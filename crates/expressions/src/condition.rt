@@ -45,6 +45,7 @@ fn flag_writer(isa: Isa<'_>, bodies: &[u8], first: u16, i: u16) -> Option<u16>
 }
 
 // `__flags_` and the condition's name; for a number that names no condition an empty text.
+#[tactic(auto, unfolding(tokens::specs::Words::word_token, tokens::specs::Words::words))]
 fn code_flags(codes: &mut [u64], tables: Tables<'_>, cc: u8)
     requires { 5 ≤ length codes.old }
     ensures { (s : List ℕ) → Coded table_bytes s codes.old codes.new (flags_word cc ∷ []) }
@@ -151,6 +152,7 @@ fn after_test(codes: &mut [u64], tables: Tables<'_>, rec: &[u8], h: Header, body
 }
 
 // A condition after the flag writer with this body.
+#[tactic(auto, unfolding(crate::specs::Condition::after_writer))]
 fn after_writer(codes: &mut [u64], tables: Tables<'_>, rec: &[u8], h: Header, body: &[u8], cc: u8)
     requires { Lent codes.old h rec.now }
     ensures { Coded table_bytes rec.now codes.old codes.new (after_writer h rec.now body.now cc) }
@@ -166,6 +168,7 @@ fn after_writer(codes: &mut [u64], tables: Tables<'_>, rec: &[u8], h: Header, bo
 }
 
 // Condition cc tested by instruction i of the block whose first instruction is `first`.
+#[tactic(auto, unfolding(crate::specs::Condition::condition_tokens))]
 pub fn condition(
     codes: &mut [u64],
     tables: Tables<'_>,

@@ -6,6 +6,7 @@ ghost use Rattle.flow.specs.Counted.{Plannable};
 ghost use Rattle.flow.specs.Planned.{record_codes, record_looks};
 
 use crate::rows::{edge_rows, shown_rows};
+use cfg::graph::Graph;
 use lists::parts::{from as part_from, part};
 use record::header::Header;
 use record::layout::targets_at;
@@ -33,20 +34,15 @@ fn plan_edges(
     let mut shown = [0u8; 500];
     edge_rows(rec, h, edges);
     shown_rows(isa, rec, h, &mut shown);
-    let e = part(edges, 0, 2 * usize::from(h.edges));
-    let s = part(&shown, 0, usize::from(h.instructions));
-    plan(
+    let g = Graph {
         blocks,
-        e,
-        s,
-        part_from(rec, 24),
-        part_from(rec, targets_at(h)),
-        h.blocks,
-        from,
-        to,
-        h.indent,
-        out,
-    )
+        edges: part(edges, 0, 2 * usize::from(h.edges)),
+        shown: part(&shown, 0, usize::from(h.instructions)),
+        starts: part_from(rec, 24),
+        targets: part_from(rec, targets_at(h)),
+        count: h.blocks,
+    };
+    plan(&g, from, to, h.indent, out)
 }
 
 // The lines' codes from the start of the list on; answers how many there are, stored or not, and how many edges were read. The blocks' rows are lent. Few edges have a

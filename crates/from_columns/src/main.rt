@@ -17,5 +17,10 @@ fn main(rt: HostRuntime) {
     );
     let mut out = [0u8; 65536];
     let m = put_by_bodies(part(&rec, 0, n), &mut out);
-    let _ = print_answer(part(&out, 0, m), b"from_columns", &rt, &rt.stderr());
+    let _ = print_answer(
+        part(&out, 0, m),
+        b"from_columns",
+        &mut rt.stdout(),
+        &mut rt.stderr(),
+    );
 }

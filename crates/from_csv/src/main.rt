@@ -133,7 +133,12 @@ fn main(rt: HostRuntime) {
         if m == 0 {
             return;
         }
-        if !print_answer(part(&out, 0, m), b"from_csv", &rt, &rt.stderr()) {
+        if !print_answer(
+            part(&out, 0, m),
+            b"from_csv",
+            &mut rt.stdout(),
+            &mut rt.stderr(),
+        ) {
             return;
         }
     }

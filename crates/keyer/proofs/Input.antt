@@ -8,9 +8,14 @@ use native.Mathlib.Numerals.{add-one}
 use native.Mathlib.Omega.{arith}
 use lib.Dec.{eqb}
 use native.Mathlib.Decide.{dec_le}
-use lib.ListN.{length, take, drop, get_or, length-append, drop_of_length-le}
-use lib.Seq.{take-append_seam, drop-cons}
+use lib.ListN.{length, take, drop, length-append, drop_of_length-le}
+use lib.Seq.{take-append_seam}
 use borrow.Author.Tests.{eqb-true, eqb-false, eq-eqb, ne_eqb}
+use Rattle.std.specs.declared.option.Option.{Option}
+use Rattle.std.specs.Prelude.{MatchOption}
+use Rattle.std.specs.Option.{unwrap_or}
+use Rattle.std.specs.List.{AllWithin, HoldsAt}
+use Rattle.std.proofs.lemmas.Iterator.{index_from_first}
 use Rattle.lists.specs.Every.{both_yes, neither}
 use Rattle.lists.proofs.Tests.{split, never}
 use Rattle.csv_rows.specs.Format.{rows_text, some}
@@ -41,32 +46,11 @@ unfolding line_size
 size_of [] rest h = refl
 size_of (b ∷ c) rest h = let f = both_yes (not (eqb b 10)) (is_line c) h in split (eqb b 10) (λ e. never (rw e at f.0)) (λ e. rw e (ap suc (size_of c rest f.1)))
 
--- the search for it stands at byte i
-pub record Seeking (s : List ℕ) (i : ℕ) : Type 0 where
-  pub size : line_size s ≡ i + line_size (drop i s)
-  pub within : i ≤ length s
-
-pub seek_start : (s : List ℕ) → Seeking s 0
-seek_start s = record { size = omega arith; within = omega arith }
-
-module _ {s : List ℕ} {i : ℕ} (w : Seeking s i) where
-  pub seek_found : i < length s → get_or s i 0 ≡ 10 → (i ≡ line_size s) × (i ≤ length s)
-  unfolding line_size
-  seek_found h e =
-      let z : line_size (drop i s) ≡ 0 = ap line_size (drop-cons s i 0 h) ∙ rw (eq-eqb (get_or s i 0) 10 e) in
-      (omega (arith, w.size, z), w.min)
-
-  pub seek_further : i < length s → (get_or s i 0 ≡ 10 → ⊥) → Seeking s (i + 1)
-  unfolding line_size
-  seek_further h e =
-      let z : line_size (drop i s) ≡ suc (line_size (drop (suc i) s)) = ap line_size (drop-cons s i 0 h) ∙ rw (ne_eqb (get_or s i 0) 10 e) in
-      record { size = rw add-one (omega (arith, w.size, z)); within = omega arith }
-
-  pub seek_end : length s ≤ i → (i ≡ line_size s) × (i ≤ length s)
-  unfolding line_size
-  seek_end h =
-      let z : line_size (drop i s) ≡ 0 = ap line_size (drop_of_length-le s {i = i} h) in
-      (omega (arith, w.size, z), w.min)
+-- what `position` answers of LF
+pub first_size : (s : List ℕ) (r : Option ℕ) → MatchOption r (AllWithin (λ x. x ≡ 10 → ⊥) s 0 (length s)) (λ i. (i < length s) × HoldsAt (λ x. x ≡ 10) s i × AllWithin (λ x. x ≡ 10 → ⊥) s 0 i)
+    → line_size s ≡ unwrap_or r (length s)
+unfolding line_size
+first_size = index_from_first line_size (λ x. x ≡ 10) (λ x. x ≡ 10 → ⊥) refl (λ x s e. rw (eq-eqb x 10 e)) (λ x s e. rw (ne_eqb x 10 e, add-one))
 
 some_taken : (n : ℕ) (s : List ℕ) → (n ≡ 0 → ⊥) → n ≤ length s → some (take n s) ≡ true
 some_taken zero s h k = absurd (h refl)

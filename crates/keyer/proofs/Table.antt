@@ -1,7 +1,7 @@
 -- What the program prints of rows: their table, or 16.
 -- Its lists suffice for every file of rows and for its table; the table of the lists that reading leaves is that of the rows.
-use mathlib.Core.Path.{◌≡◌, refl, sym, ap, ◌∙◌}
-use mathlib.Core.Bool.{Bool, true, false}
+use mathlib.Core.Path.{◌≡◌, sym, ap, ◌∙◌}
+use mathlib.Core.Bool.{true, false}
 use mathlib.Core.List.{List, []}
 use Prim.Native.Nat.{ℕ, ◌≤◌, ◌<◌}
 use native.Mathlib.Decide.{ℕ_discrete}
@@ -10,14 +10,16 @@ use lib.ListN.{length, take, drop, get_or}
 use lib.Seq.{take-append_seam}
 use borrow.Author.Tests.{le-leb}
 use Rattle.lists.specs.Entries.{entry}
-use Rattle.rows.specs.Lists.{Lists, sizes_of, number_of, values_of, left, Leaves}
+use Rattle.rows.specs.Lists.{Lists, sizes_of, values_of, left, Leaves}
 use Rattle.rows.specs.Rows.{Row, row, row_at, rows_in, row_lists, holds_rows}
 use Rattle.rows.specs.declared.answer.Sizes.{Sizes}
-use Rattle.rows.specs.declared.answer.Answer.{Answer}
-use Rattle.rows.specs.declared.answer.Answer.TheVariants.{Listed, No}
+use Rattle.std.specs.declared.result.Result.{Result}
+use Rattle.std.specs.Prelude.{Ok, Err}
+use Rattle.lists.specs.Question.{number, number_of, Answers}
+use Rattle.lists.specs.declared.question.Question.{Question}
+use Rattle.lists.proofs.Answered.{value_is, question_some}
 use Rattle.rows.proofs.Back.{leaves_rows, rows_back, begins_alone}
-use Rattle.rows.proofs.Listed.{refused_some, lines_size}
-use Rattle.lists.proofs.Tests.{never}
+use Rattle.rows.proofs.Listed.{lines_size}
 use Rattle.csv_rows.specs.Format.{rows_text}
 use Rattle.csv_rows.specs.Called.{writable, Reads}
 use Rattle.csv_rows.proofs.Fit.{writable_good, rows_fit}
@@ -25,10 +27,9 @@ use Rattle.csv_rows.proofs.Holding.{holding}
 use Rattle.csv_rows.proofs.Room.{addresses_length, enough}
 use Rattle.page.specs.Page.{refusal}
 use Rattle.commands.specs.Table.{Table, table_lists, entries_from, table_of}
-use Rattle.commands.specs.Called.{counts_of, answer_for, table, table_no, Makes}
+use Rattle.commands.specs.Called.{size_of, table, table_no, Makes}
 use Rattle.commands.specs.Printed.{table_text}
-use Rattle.commands.specs.declared.table.Tabled.{Tabled}
-use Rattle.commands.specs.declared.table.Tabled.TheVariants.{Entries, No as Refused}
+use Rattle.commands.specs.declared.table.Size.{Size}
 use Rattle.commands.proofs.Alike.{entries_alike}
 use Rattle.commands.proofs.Told.{few}
 use Rattle.commands.proofs.Short.{same_count, text_short}
@@ -43,16 +44,12 @@ Roomy b =
 abbrev pub RoomyTable : Table → Type 0
 RoomyTable t = (436880 ≤ length t.bytes) × (5461 ≤ length t.rows) × (5461 ≤ length t.addresses)
 
-abbrev is_refused : Tabled → Bool
-is_refused (Entries x n) = false
-is_refused (Refused n) = true
-
 taken : (i k : ℕ) (new old l : List ℕ) → i ≡ 0 → l ≡ left i new old → k ≡ length new → take k l ≡ new
 taken i k new old l z p q = rw (p, z, q) (take-append_seam new (drop (length new) old))
 
 -- ---- the table of lists that hold rows, of at most 5,461 lines
 module _ (l : Lists) (z : Sizes) (call register : List ℕ) (holds : holds_rows l z.text z.tokens z.lines ≡ true) (lines_few : z.lines ≤ 5461) (some : named call register ≡ true)
-    (lent after : Table) (room : RoomyTable lent) (r : Tabled) (m : Makes l z call register lent after r) where
+    (lent after : Table) (room : RoomyTable lent) (r : Result Size Question) (m : Makes l z call register lent after r) where
   abbrev new : Table
   new = table l z call register
 
@@ -68,39 +65,39 @@ module _ (l : Lists) (z : Sizes) (call register : List ℕ) (holds : holds_rows 
         le-leb (length new.addresses) (length lent.addresses) (omega (arith, f.1, lines_few, room.2)),
       )
 
-  made : r ≡ answer_for new 0
-  made = m.answer ∙ ap (answer_for new) yes_all
+  made : Answers 0 (size_of new) r
+  made = rw yes_all at m.answer
 
-  pub not_refused : (n : ℕ) → r ≡ Refused n → {A : Type 0} → A
-  not_refused n q = never (sym (ap is_refused made) ∙ ap is_refused q)
+  pub not_refused : (q : Question) → r ≡ Err q → {A : Type 0} → A
+  not_refused q e = absurd (omega (arith, question_some 0 (size_of new) r q made e))
 
-  module _ (x n : ℕ) (q : r ≡ Entries x n) (bs rows addresses : List ℕ) (c : bs ≡ take x after.bytes) (d : rows ≡ take n after.rows) (e : addresses ≡ take n after.addresses) where
-    entries : Entries x n ≡ Entries (length new.bytes) (length new.rows)
-    entries = sym q ∙ made
+  module _ (size : Size) (q : r ≡ Ok size) (bs rows addresses : List ℕ) (c : bs ≡ take size.bytes after.bytes) (d : rows ≡ take size.rows after.rows) (e : addresses ≡ take size.rows after.addresses) where
+    sizes_are : size ≡ size_of new
+    sizes_are = (value_is 0 (size_of new) r size made q).1
 
     bytes_are : bs ≡ new.bytes
-    bytes_are = c ∙ taken (table_no l z call register lent) x new.bytes lent.bytes after.bytes yes_all m.bytes (ap (λ (u : Tabled). (counts_of u).bytes) entries)
+    bytes_are = c ∙ taken (table_no l z call register lent) size.bytes new.bytes lent.bytes after.bytes yes_all m.bytes (ap (λ (u : Size). u.bytes) sizes_are)
 
-    count : n ≡ length new.rows
-    count = ap (λ (u : Tabled). (counts_of u).rows) entries
+    count : size.rows ≡ length new.rows
+    count = ap (λ (u : Size). u.rows) sizes_are
 
     rows_are : rows ≡ new.rows
-    rows_are = d ∙ taken (table_no l z call register lent) n new.rows lent.rows after.rows yes_all m.rows count
+    rows_are = d ∙ taken (table_no l z call register lent) size.rows new.rows lent.rows after.rows yes_all m.rows count
 
     addresses_are : addresses ≡ new.addresses
     addresses_are =
         e
-        ∙ taken (table_no l z call register lent) n new.addresses lent.addresses after.addresses yes_all m.addresses
+        ∙ taken (table_no l z call register lent) size.rows new.addresses lent.addresses after.addresses yes_all m.addresses
         (count ∙ same_count (entries_from l call register 0 z.lines))
 
-    pub text_is : table_text (table_lists bs rows addresses) n ≡ commands_text l z call register
+    pub text_is : table_text (table_lists bs rows addresses) size.rows ≡ commands_text l z call register
     text_is = rw (bytes_are, rows_are, addresses_are, count)
 
-    pub text_fits : length (table_text (table_lists bs rows addresses) n) ≤ 972058
+    pub text_fits : length (table_text (table_lists bs rows addresses) size.rows) ≤ 972058
     text_fits = omega (arith, ap length text_is, text_short l z call register, (few l z call register).0, lines_few)
 
 -- ---- what is printed of a file
-module _ (call register s : List ℕ) (b a : Lists) (roomy : Roomy b) (g : Answer) (v : Reads s b a g) (short : length s ≤ 65536) where
+module _ (call register s : List ℕ) (b a : Lists) (roomy : Roomy b) (g : Result Sizes Question) (v : Reads s b a g) (short : length s ≤ 65536) where
   listed : (rs : List Row) → writable rs ≡ true → rows_text rs ≡ s → Leaves 0 (row_lists rs) b a g
   listed rs w t =
       let e =
@@ -108,17 +105,17 @@ module _ (call register s : List ℕ) (b a : Lists) (roomy : Roomy b) (g : Answe
       (roomy.0, omega (arith, roomy.1), omega (arith, roomy.2), omega (arith, roomy.3), omega (arith, roomy.4), omega (arith, roomy.5), omega (arith, roomy.6)) in
       rw e at (v.rows rs w t)
 
-  pub no_rows : (out : List ℕ) (n : ℕ) → g ≡ No n → out ≡ refusal n → PrintsTable call register s out
-  no_rows out n h o =
+  pub no_rows : (out : List ℕ) (q : Question) → g ≡ Err q → out ≡ refusal (number q) → PrintsTable call register s out
+  no_rows out q h o =
       record {
-        refused = λ none. elim (ℕ_discrete n 16) [
+        refused = λ none. elim (ℕ_discrete (number q) 16) [
           | yes e ↦ o ∙ rw e
-          | no e ↦ let r = v.others (λ q. e (sym (ap number_of h) ∙ q)) in absurd (none r.0 r.1.0 r.1.1)
+          | no e ↦ let r = v.others (λ n. e (sym (ap number_of h) ∙ n)) in absurd (none r.0 r.1.0 r.1.1)
         ];
-        table = λ rs w t. absurd (refused_some n (sizes_of (row_lists rs)) 0 (sym h ∙ (listed rs w t).answer) refl);
+        table = λ rs w t. absurd (omega (arith, question_some 0 (sizes_of (row_lists rs)) g q (listed rs w t).answer h));
       }
 
-  module _ (z : Sizes) (h : g ≡ Listed z) where
+  module _ (z : Sizes) (h : g ≡ Ok z) where
     file : (rs : List Row) × ((writable rs ≡ true) × (rows_text rs ≡ s))
     file = v.others (λ q. let n : 0 ≡ 16 = sym (ap number_of h) ∙ q in omega (arith, n))
 
@@ -128,7 +125,7 @@ module _ (call register s : List ℕ) (b a : Lists) (roomy : Roomy b) (g : Answe
 
       read_rows : rows_in a (length rs) ≡ rs
       read_rows =
-          let e : (values_of g).lines ≡ length rs = ap (λ (r : Answer). (values_of r).lines) h ∙ lines_are in
+          let e : (values_of g).lines ≡ length rs = ap (λ (r : Result Sizes Question). (values_of r).lines) h ∙ lines_are in
           ap (rows_in a) (sym e) ∙ (leaves_rows rs b a g (listed rs w t) (rows_fit rs (writable_good rs w))).1
 
       row_is : (l : Lists) → rows_in l (length rs) ≡ rs → (i : ℕ) → i < length rs → row_at l i ≡ get_or rs i (row false 0 0 0 [])

@@ -2,72 +2,58 @@
 #![tactic(auto)]
 
 ghost use Rattle.std.specs.Prelude.{◌≡◌, true, ◌≤◌, length, take};
-ghost use Rattle.rows.specs.Lists.{lists_of};
 ghost use Rattle.rows.specs.Rows.{holds_rows};
 ghost use Rattle.keyer.specs.Output.{named, Prints};
 ghost use Rattle.keyer.specs.Parts.{line_size, commands_text, PrintsTable};
 
 use commands::printed::put_table;
-use commands::table::{Tabled, command_table};
+use commands::table::command_table;
 use csv_rows::reading::read_rows;
 use lists::parts::{from, part};
+use lists::question::Question;
 use page::number::put_refusal;
-use rows::answer::{Answer, Sizes};
+use rows::answer::Sizes;
+use rows::listing::Listing;
 use stdio::input::{bytes_read, read_input};
+use stdio::output::print_answer;
 
 // How many bytes of a text stand before its first LF; all of them if it has none.
 fn line_size(s: &[u8]) -> usize
     ensures { (result ≡ line_size s.now) × (result ≤ length s.now) }
 {
-    let mut i: usize = 0;
-    while i < s.len() {
-        if s[i] == b'\n' {
-            return i;
-        }
-        i += 1;
-    }
-    i
+    s.iter().position(|&b| b == b'\n').unwrap_or(s.len())
 }
 
 // The text of the table of lists that hold at most 5,461 lines: each line has one row at most, of at most 80 bytes.
 fn put_commands(
     out: &mut [u8],
-    text: &[u8],
-    ends: &[u32],
-    kinds: &[u8],
-    addresses: &[u64],
-    marks: &[u16],
-    places: &[u16],
-    lines: &[u32],
+    l: &Listing<'_>,
     sizes: Sizes,
     call: &[u8],
     register: &[u8],
 ) -> usize
-    requires lists { (holds_rows (lists_of text.now ends.now kinds.now addresses.now marks.now places.now lines.now) sizes.text sizes.tokens sizes.lines ≡ true) × (sizes.lines ≤ 5461) }
+    requires lists { (holds_rows l.now sizes.text sizes.tokens sizes.lines ≡ true) × (sizes.lines ≤ 5461) }
     requires names { named call.now register.now ≡ true }
     requires room { 972058 ≤ length out.old }
-    ensures { take result out.new ≡ commands_text (lists_of text.now ends.now kinds.now addresses.now marks.now places.now lines.now) sizes call.now register.now }
+    ensures { take result out.new ≡ commands_text l.now sizes call.now register.now }
 {
     let mut bytes = [0u8; 436880];
     let mut rows = [0u64; 5461];
     let mut calls = [0u64; 5461];
-    match command_table(
-        text, ends, kinds, addresses, marks, places, lines, sizes, call, register, &mut bytes,
-        &mut rows, &mut calls,
-    ) {
-        Tabled::Entries(x, n) => put_table(
+    match command_table(l, sizes, call, register, &mut bytes, &mut rows, &mut calls) {
+        Ok(size) => put_table(
             out,
-            part(&bytes, 0, x),
-            part(&rows, 0, n),
-            part(&calls, 0, n),
-            n,
+            part(&bytes, 0, size.bytes),
+            part(&rows, 0, size.rows),
+            part(&calls, 0, size.rows),
+            size.rows,
         ),
-        Tabled::No(n) => put_refusal(out, n),
+        Err(q) => put_refusal(out, q),
     }
 }
 
 // `answer_rows` with lists that suffice: 65,536 bytes of rows have at most so many bytes of text, tokens (of 6 bytes or more) and lines (of
-// 12 or more).
+// 12 or more). Seven lists are seven parameters where they are filled: of a struct of seven `&mut` lists the proof did not close.
 fn answer_with(
     call: &[u8],
     register: &[u8],
@@ -86,10 +72,19 @@ fn answer_with(
     ensures { PrintsTable call.now register.now file.now (take result out.new) }
 {
     match read_rows(file, text, ends, kinds, addresses, marks, places, lines) {
-        Answer::Listed(z) => put_commands(
-            out, text, ends, kinds, addresses, marks, places, lines, z, call, register,
-        ),
-        Answer::No(n) => put_refusal(out, n),
+        Ok(sizes) => {
+            let l = Listing {
+                text,
+                ends,
+                kinds,
+                addresses,
+                marks,
+                places,
+                lines,
+            };
+            put_commands(out, &l, sizes, call, register)
+        }
+        Err(q) => put_refusal(out, q),
     }
 }
 
@@ -127,16 +122,16 @@ fn answer(input: &[u8], out: &mut [u8]) -> usize
     ensures { Prints input.now (take result out.new) }
 {
     if input.len() > 65536 {
-        return put_refusal(out, 16);
+        return put_refusal(out, Question::Rows);
     }
     let n = line_size(input);
     let rest = from(input, n + 1);
     let m = line_size(rest);
     if m == rest.len() {
-        return put_refusal(out, 16);
+        return put_refusal(out, Question::Rows);
     }
     if (n == 0) | (m == 0) {
-        return put_refusal(out, 19);
+        return put_refusal(out, Question::Names);
     }
     answer_rows(part(input, 0, n), part(rest, 0, m), from(rest, m + 1), out)
 }
@@ -152,9 +147,10 @@ fn main(rt: HostRuntime) {
     );
     let mut out = [0u8; 972058];
     let m = answer(part(&input, 0, n), &mut out);
-    if rt.write_all(part(&out, 0, m)).is_err() {
-        let _ = rt
-            .stderr()
-            .write_all(b"keyer: standard output cannot be written\n");
-    }
+    let _ = print_answer(
+        part(&out, 0, m),
+        b"keyer",
+        &mut rt.stdout(),
+        &mut rt.stderr(),
+    );
 }

@@ -10,6 +10,7 @@ use record::body::{
 use x86::registers::{full_register, register_size};
 use x86::table::Isa;
 
+#[tactic(auto, unfolding(crate::specs::Forms::cast_form, crate::specs::Codes::form_number))]
 fn cast_form(isa: Isa<'_>, m: u8, body: &[u8]) -> u8
     ensures { result ≡ form_number (cast_form m body.now) }
 {
@@ -47,15 +48,18 @@ fn is_or_ones(body: &[u8]) -> bool
                 & (memory_size(body) == 4)))
 }
 
+#[tactic(auto, unfolding(crate::specs::Forms::imul_form, crate::specs::Codes::form_number))]
 fn imul_form(count: u8) -> u8
     ensures { result ≡ form_number (imul_form count) }
 {
-    if count == 3 {
-        return 21;
+    match count {
+        0..=1 => 39,
+        3 => 21,
+        _ => 22,
     }
-    if 2 <= count { 22 } else { 39 }
 }
 
+#[tactic(auto, unfolding(crate::specs::Forms::call_form, crate::specs::Codes::form_number))]
 fn call_form(body: &[u8]) -> u8
     ensures { result ≡ form_number (call_form body.now) }
 {
@@ -70,6 +74,7 @@ fn call_form(body: &[u8]) -> u8
     26
 }
 
+#[tactic(auto, unfolding(crate::specs::Forms::xchg_form, crate::specs::Codes::form_number))]
 fn xchg_form(body: &[u8]) -> u8
     ensures { result ≡ form_number (xchg_form body.now) }
 {
@@ -83,6 +88,7 @@ fn xchg_form(body: &[u8]) -> u8
 }
 
 // An instruction that leaves a value in the accumulator.
+#[tactic(auto, unfolding(crate::specs::Forms::leaves_value))]
 pub fn leaves_value(isa: Isa<'_>, body: &[u8]) -> bool
     ensures { result ≡ leaves_value body.now }
 {
@@ -93,18 +99,21 @@ pub fn leaves_value(isa: Isa<'_>, body: &[u8]) -> bool
 }
 
 // xor, and, or, where the operands may make it the store of a constant.
+#[tactic(auto, unfolding(crate::specs::Forms::logic_form, crate::specs::Forms::plain_form, crate::specs::Codes::form_number))]
 fn xor_form(body: &[u8]) -> u8
     ensures { result ≡ form_number (logic_form 6 body.now) }
 {
     if is_xor_self(body) { 6 } else { 12 }
 }
 
+#[tactic(auto, unfolding(crate::specs::Forms::logic_form, crate::specs::Forms::plain_form, crate::specs::Codes::form_number))]
 fn and_form(body: &[u8]) -> u8
     ensures { result ≡ form_number (logic_form 7 body.now) }
 {
     if is_and_zero(body) { 6 } else { 10 }
 }
 
+#[tactic(auto, unfolding(crate::specs::Forms::logic_form, crate::specs::Forms::plain_form, crate::specs::Codes::form_number))]
 fn or_form(body: &[u8]) -> u8
     ensures { result ≡ form_number (logic_form 8 body.now) }
 {
@@ -115,21 +124,21 @@ fn logic_form(m: u8, body: &[u8]) -> u8
     requires { (6 ≤ m) × (m ≤ 8) }
     ensures { result ≡ form_number (logic_form m body.now) }
 {
-    if m == 6 {
-        return xor_form(body);
+    match m {
+        6 => xor_form(body),
+        7 => and_form(body),
+        _ => or_form(body),
     }
-    if m == 7 {
-        return and_form(body);
-    }
-    or_form(body)
 }
 
+#[tactic(auto, unfolding(crate::specs::Forms::return_form, crate::specs::Codes::form_number))]
 pub fn return_form(value: bool) -> u8
     ensures { result ≡ form_number (return_form value) }
 {
     if value { 27 } else { 28 }
 }
 
+#[tactic(auto, unfolding(crate::specs::Forms::jump_form, crate::specs::Codes::form_number))]
 fn jump_form(body: &[u8]) -> u8
     ensures { result ≡ form_number (jump_form body.now) }
 {
@@ -137,30 +146,24 @@ fn jump_form(body: &[u8]) -> u8
 }
 
 // The form of an instruction's own line, where its operands decide it.
+#[tactic(auto, unfolding(crate::specs::Forms::insn_form, crate::specs::Codes::form_number))]
 pub fn insn_form(isa: Isa<'_>, body: &[u8]) -> u8
     requires body_value { by_operands (mnemonic_of body.now) ≡ true }
     ensures { result ≡ form_number (insn_form false body.now) }
 {
     let m = mnemonic(body);
-    if m == 23 {
-        return call_form(body);
+    match m {
+        6..=8 => logic_form(m, body),
+        20 => imul_form(op_count(body)),
+        23 => call_form(body),
+        25 => jump_form(body),
+        29 => xchg_form(body),
+        _ => cast_form(isa, m, body),
     }
-    if (6 <= m) & (m <= 8) {
-        return logic_form(m, body);
-    }
-    if m == 25 {
-        return jump_form(body);
-    }
-    if m == 20 {
-        return imul_form(op_count(body));
-    }
-    if m == 29 {
-        return xchg_form(body);
-    }
-    cast_form(isa, m, body)
 }
 
 // Whether one of the six instructions before instruction i of its block, whose first is `first`, leaves a value.
+#[tactic(auto, unfolding(crate::specs::Forms::returns_value))]
 pub fn returns_value(isa: Isa<'_>, bodies: &[u8], first: u16, i: u16) -> bool
     ensures { result ≡ returns_value bodies.now first i }
 {
@@ -173,6 +176,7 @@ pub fn returns_value(isa: Isa<'_>, bodies: &[u8], first: u16, i: u16) -> bool
 }
 
 // Whether instruction i - 1 - k is of the block and leaves a value.
+#[tactic(auto, unfolding(crate::specs::Forms::value_before))]
 fn value_before(isa: Isa<'_>, bodies: &[u8], first: u16, i: u16, k: u16) -> bool
     requires { k ≤ 6 }
     ensures { result ≡ value_before bodies.now first i k }

@@ -48,22 +48,22 @@ fn code_accumulator(codes: &mut [u64], tables: Tables<'_>, bits: u16)
 }
 
 // The memory operand as an address, 0 and -1: pieces 136 to 138.
+#[tactic(auto, unfolding(crate::specs::Codes::piece_of, crate::specs::Print::piece_tokens))]
 fn code_value(codes: &mut [u64], tables: Tables<'_>, rec: &[u8], h: Header, body: &[u8], piece: u8)
     requires lent { Lent codes.old h rec.now }
     requires le_piece { (136 ≤ piece) × (piece < 139) }
     ensures { (site : Site) → body.now ≡ body_of h rec.now site.at
         → Coded table_bytes rec.now codes.old codes.new (piece_tokens h rec.now site (piece_of piece)) }
 {
-    if piece == 136 {
-        return mem(codes, tables, rec, h, body, false);
+    match piece {
+        136 => mem(codes, tables, rec, h, body, false),
+        137 => code_num(codes, false, 0),
+        _ => code_num(codes, true, 1),
     }
-    if piece == 137 {
-        return code_num(codes, false, 0);
-    }
-    code_num(codes, true, 1)
 }
 
 // The condition, or the one that it turns into: pieces 139 and 140.
+#[tactic(auto, unfolding(crate::specs::Codes::piece_of, crate::specs::Print::piece_tokens))]
 fn code_tested(
     codes: &mut [u64],
     tables: Tables<'_>,
@@ -112,24 +112,22 @@ fn code_named(
 }
 
 // The registers rax, eax and ecx, from piece 147 on; past the last piece 0.
+#[tactic(auto, unfolding(crate::specs::Codes::piece_of, crate::specs::Print::piece_tokens))]
 fn code_fixed(codes: &mut [u64], tables: Tables<'_>, h: Header, piece: u8)
     requires in_bounds { 5 ≤ length codes.old }
     requires le_piece { 147 ≤ piece }
     ensures { (s : List ℕ) (site : Site) → Coded table_bytes s codes.old codes.new (piece_tokens h s site (piece_of piece)) }
 {
-    if piece == 147 {
-        return code_register(codes, tables, 0x50);
+    match piece {
+        147 => code_register(codes, tables, 0x50),
+        148 => code_register(codes, tables, 0x40),
+        149 => code_register(codes, tables, 0x41),
+        _ => code_num(codes, false, 0),
     }
-    if piece == 148 {
-        return code_register(codes, tables, 0x40);
-    }
-    if piece == 149 {
-        return code_register(codes, tables, 0x41);
-    }
-    code_num(codes, false, 0)
 }
 
 // The pieces from 145 on.
+#[tactic(auto, unfolding(crate::specs::Codes::piece_of, crate::specs::Print::piece_tokens))]
 fn code_late(
     codes: &mut [u64],
     tables: Tables<'_>,
@@ -145,16 +143,15 @@ fn code_late(
     requires le_piece { 145 ≤ piece }
     ensures { Coded table_bytes rec.now codes.old codes.new (piece_tokens h rec.now site (piece_of piece)) }
 {
-    if piece == 145 {
-        return code_accumulator(codes, tables, h.bits);
+    match piece {
+        145 => code_accumulator(codes, tables, h.bits),
+        146 => assembly(codes, tables, rec, h, site.at, body),
+        _ => code_fixed(codes, tables, h, piece),
     }
-    if piece == 146 {
-        return assembly(codes, tables, rec, h, site.at, body);
-    }
-    code_fixed(codes, tables, h, piece)
 }
 
 // The pieces that are neither words nor operands.
+#[tactic(auto, unfolding(crate::specs::Codes::piece_of, crate::specs::Print::piece_tokens))]
 fn code_special(
     codes: &mut [u64],
     tables: Tables<'_>,
@@ -170,22 +167,17 @@ fn code_special(
     requires le_piece { 136 ≤ piece }
     ensures { Coded table_bytes rec.now codes.old codes.new (piece_tokens h rec.now site (piece_of piece)) }
 {
-    if piece < 139 {
-        return code_value(codes, tables, rec, h, body, piece);
+    match piece {
+        136..=138 => code_value(codes, tables, rec, h, body, piece),
+        139..=140 => code_tested(codes, tables, rec, h, site, body, piece),
+        141 => arguments(codes, tables, rec, h, site.range, site.at, site.written),
+        142..=144 => code_named(codes, tables, rec, h, site, body, piece),
+        _ => code_late(codes, tables, rec, h, site, body, piece),
     }
-    if piece < 141 {
-        return code_tested(codes, tables, rec, h, site, body, piece);
-    }
-    if piece == 141 {
-        return arguments(codes, tables, rec, h, site.range, site.at, site.written);
-    }
-    if piece < 145 {
-        return code_named(codes, tables, rec, h, site, body, piece);
-    }
-    code_late(codes, tables, rec, h, site, body, piece)
 }
 
 // Operand k: most are registers, memory and small numbers, which no span and no sign can change.
+#[tactic(auto, unfolding(operand::specs::Operand::op_tokens))]
 fn code_operand(codes: &mut [u64], tables: Tables<'_>, rec: &[u8], h: Header, body: &[u8], k: u8)
     requires { Lent codes.old h rec.now }
     ensures { Coded table_bytes rec.now codes.old codes.new (op_tokens h rec.now body.now k) }
@@ -236,6 +228,7 @@ pub fn code_row(
 }
 
 // A piece that is no word.
+#[tactic(auto, unfolding(crate::specs::Codes::piece_of, crate::specs::Print::piece_tokens))]
 fn code_piece(
     codes: &mut [u64],
     tables: Tables<'_>,

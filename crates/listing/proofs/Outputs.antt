@@ -6,13 +6,14 @@ use Prim.Native.Nat.{ℕ, ◌≤◌}
 use native.Mathlib.Omega.{arith}
 use lib.ListN.{length, take}
 use Rattle.tokens.proofs.ListingLaws.{lines_length}
-use Rattle.rows.specs.Lists.{Lists}
+use Rattle.rows.specs.Lists.{Lists, cut}
 use Rattle.record.specs.Header.{header_of}
 use Rattle.operand.proofs.Bounds.{AllBytes}
 use Rattle.flow.specs.Planned.{record_plan}
 use Rattle.rows.specs.declared.answer.Sizes.{Sizes}
-use Rattle.rows.specs.declared.answer.Answer.{Answer}
-use Rattle.rows.specs.declared.answer.Answer.TheVariants.{Listed}
+use Rattle.std.specs.declared.result.Result.{Result}
+use Rattle.std.specs.Prelude.{Ok}
+use Rattle.lists.specs.declared.question.Question.{Question}
 use Rattle.pseudo.specs.Listed.{record_lines, record_lists}
 use Rattle.pseudo.specs.Called.{Called}
 use Rattle.page.specs.Page.{lines_end, page_text, page_of}
@@ -22,23 +23,12 @@ use Rattle.rows.proofs.Listed.{text_size, lines_size}
 use Rattle.program.proofs.Lent.{lent, listed_output, cut_listing, many, few_lines, short_text}
 use Rattle.listing.proofs.Ends.{ends_rise, last_end, addresses_small}
 
-module _ (s : List ℕ) (to : ℕ) (whole : to ≡ (header_of s).blocks) (a : Lists) (g : Answer) (called : Called s 0 to lent a g) (z : Sizes) (h : g ≡ Listed z) where
+module _ (s : List ℕ) (to : ℕ) (whole : to ≡ (header_of s).blocks) (a : Lists) (g : Result Sizes Question) (called : Called s 0 to lent a g) (z : Sizes) (h : g ≡ Ok z) where
   abbrev new : Lists
   new = record_lists (header_of s) s 0 to
 
-  pub page_output : (tx en li ad ma : List ℕ) → tx ≡ take z.text a.text → en ≡ take z.tokens a.ends → li ≡ take z.lines a.lines
-      → ad ≡ take z.lines a.addresses → ma ≡ take z.lines a.marks → page_text tx en li ad ma z.lines ≡ output_text page_of s
-  page_output tx en li ad ma b c d f i =
-      let same = cut_listing s to whole a g called z h in
-      rw (
-        b ∙ ap (λ (l : Lists). l.text) same,
-        c ∙ ap (λ (l : Lists). l.ends) same,
-        d ∙ ap (λ (l : Lists). l.lines) same,
-        f ∙ ap (λ (l : Lists). l.addresses) same,
-        i ∙ ap (λ (l : Lists). l.marks) same,
-        lines_size called z h,
-      )
-      (sym (listed_output s to whole a g called z h page_of))
+  pub page_output : page_text (cut a z) z.lines ≡ output_text page_of s
+  page_output = rw (cut_listing s to whole a g called z h, lines_size called z h) (sym (listed_output s to whole a g called z h page_of))
 
   -- "lines=900" and LF, 900 lines of 528 bytes beside their text, and the text
   pub short_output : AllBytes s → length a.text ≡ 65536 → length a.addresses ≡ 900 → length (output_text page_of s) ≤ 540746
@@ -49,7 +39,7 @@ module _ (s : List ℕ) (to : ℕ) (whole : to ≡ (header_of s).blocks) (a : Li
       let plan = record_plan (header_of s) s 0 to in
       let few = few_lines s to whole a g called z h in
       let size = lines_size called z h in
-      let short = page_short new.text new.ends new.lines new.addresses new.marks (addresses_small (header_of s) s bytes plan) count (λ i h. ends_rise ls i (omega arith)) (omega (arith, few, size)) in
+      let short = page_short new (addresses_small (header_of s) s bytes plan) count (λ i h. ends_rise ls i (omega arith)) (omega (arith, few, size)) in
       let last : lines_end new.ends new.lines count ≡ length new.text = ap (lines_end new.ends new.lines) (sym same) ∙ last_end ls in
       let is : length (output_text page_of s) ≡ length (page_of new) = ap length (listed_output s to whole a g called z h page_of) in
       omega (arith, short, last, is, few, size, short_text s to whole a g called z h, text_size called z h)

@@ -10,9 +10,9 @@ use page::number::put_refusal;
 use page::page::put_page;
 use pseudo::call::list;
 use record::header::read_header;
-use record::layout::size;
-use rows::answer::Answer;
+use rows::listing::Listing;
 use stdio::input::{bytes_read, read_input};
+use stdio::output::print_answer;
 
 // What the program prints of a record; answers how many bytes that is. `lines=900` and LF are 10, each of 900 lines has 16 digits,
 // a space, at most 2 * 255 spaces and LF beside its text, and the text at most 65,536: 540,746 bytes in all.
@@ -20,7 +20,7 @@ fn answer(rec: &[u8], out: &mut [u8]) -> usize
     requires { 540746 ≤ length out.old }
     ensures { Prints page_of rec.now (take result out.new) }
 {
-    let to = size(read_header(rec).blocks);
+    let to = usize::from(read_header(rec).blocks);
     let mut text = [0u8; 65536];
     let mut ends = [0u32; 16384];
     let mut kinds = [0u8; 16384];
@@ -40,18 +40,20 @@ fn answer(rec: &[u8], out: &mut [u8]) -> usize
         &mut places,
         &mut lines,
     );
-    let answer = listed.answer;
-    match answer {
-        Answer::Listed(z) => put_page(
-            out,
-            z.lines,
-            part(&text, 0, z.text),
-            part(&ends, 0, z.tokens),
-            part(&lines, 0, z.lines),
-            part(&addresses, 0, z.lines),
-            part(&marks, 0, z.lines),
-        ),
-        Answer::No(n) => put_refusal(out, n),
+    match listed.answer {
+        Ok(sizes) => {
+            let all = Listing {
+                text: &text,
+                ends: &ends,
+                kinds: &kinds,
+                addresses: &addresses,
+                marks: &marks,
+                places: &places,
+                lines: &lines,
+            };
+            put_page(out, sizes.lines, &all.cut(sizes))
+        }
+        Err(q) => put_refusal(out, q),
     }
 }
 
@@ -66,9 +68,5 @@ fn main(rt: HostRuntime) {
     );
     let mut out = [0u8; 540746];
     let m = answer(part(&rec, 0, n), &mut out);
-    if rt.write_all(part(&out, 0, m)).is_err() {
-        let _ = rt
-            .stderr()
-            .write_all(b"listing: standard output cannot be written\n");
-    }
+    let _ = print_answer(part(&out, 0, m), b"listing", &mut rt.stdout(), &mut rt.stderr());
 }

@@ -27,6 +27,7 @@ fn code_alone(codes: &mut [u64], tables: Tables<'_>, rec: &[u8], h: Header, body
 }
 
 // Whether the first two operands of a body print alike: each has at most 28 codes.
+#[tactic(auto, unfolding(crate::specs::Alike::alike))]
 pub fn alike(tables: Tables<'_>, rec: &[u8], h: Header, body: &[u8]) -> bool
     requires { Rising h rec.now }
     ensures { result ≡ alike h rec.now body.now }

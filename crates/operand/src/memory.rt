@@ -51,6 +51,7 @@ fn prefix_word(size: u16) -> u8
 }
 
 // The word of a slot.
+#[tactic(auto, unfolding(tokens::specs::Words::word_token, tokens::specs::Words::words))]
 fn slot_word(sp: bool, negative: bool) -> u8
     ensures { (word_token result ≡ pick (sp || negative) (register "var_") (register "arg_")) × (result < 102) }
 {
@@ -70,12 +71,14 @@ fn registers_loose(h: Header, body: &[u8]) -> bool
 }
 
 // The word between registers and displacement.
+#[tactic(auto, unfolding(tokens::specs::Words::word_token, tokens::specs::Words::words))]
 fn sign_word(negative: bool) -> u8
     ensures { word_token result ≡ pick negative (punct " - ") (punct " + ") }
 {
     if negative { MINUS } else { PLUS }
 }
 
+#[tactic(auto, unfolding(crate::specs::Memory::address_expr))]
 fn address_loose(h: Header, body: &[u8]) -> bool
     ensures { result ≡ (address_expr h body.now).loose }
 {
@@ -87,6 +90,7 @@ fn address_loose(h: Header, body: &[u8]) -> bool
 }
 
 // The word of a size that is read.
+#[tactic(auto, using(crate::proofs::WordNames::type_word_lem))]
 fn type_word(size: u16) -> u8
     ensures { word_token result ≡ type_word size }
 {
@@ -271,6 +275,7 @@ fn code_place(codes: &mut [u64], tables: Tables<'_>, h: Header, body: &[u8], der
 }
 
 // A memory operand, read or as an address.
+#[tactic(auto, unfolding(crate::specs::Memory::mem_tokens, crate::specs::Memory::mem_expr))]
 pub fn mem(codes: &mut [u64], tables: Tables<'_>, rec: &[u8], h: Header, body: &[u8], deref: bool)
     requires { Lent codes.old h rec.now }
     ensures { Coded table_bytes rec.now codes.old codes.new (mem_tokens h rec.now deref body.now) }

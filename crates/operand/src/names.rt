@@ -20,6 +20,7 @@ use record::layout::{entries_at, pairs_at, spans_at, texts_at};
 use record::search::search;
 
 // The entry at an address.
+#[tactic(auto, unfolding(crate::specs::Names::entry_at))]
 pub fn entry_at(rec: &[u8], h: Header, va: u64) -> Option<u16>
     requires { Rising h rec.now }
     ensures { result ≡ entry_at h rec.now va }
@@ -42,6 +43,7 @@ fn plain_span(spans: &[u8], n: u16, va: u64) -> bool
 }
 
 // Whether an address lies in a span.
+#[tactic(auto, unfolding(crate::specs::Names::in_span))]
 pub fn in_span(rec: &[u8], h: Header, va: u64) -> bool
     ensures { result ≡ in_span h rec.now va }
 {
@@ -66,6 +68,7 @@ fn text_place(rec: &[u8], h: Header, k: u16) -> u32
 }
 
 // The token of entry k.
+#[tactic(auto, unfolding(crate::specs::Names::entry_token))]
 pub fn code_entry(codes: &mut [u64], rec: &[u8], h: Header, k: u16)
     requires { 5 ≤ length codes.old }
     ensures { (t : List ℕ) → Coded t rec.now codes.old codes.new (entry_token h rec.now k ∷ []) }
@@ -81,6 +84,7 @@ pub fn code_entry(codes: &mut [u64], rec: &[u8], h: Header, k: u16)
 }
 
 // The token for an address.
+#[tactic(auto, unfolding(crate::specs::Names::name_or))]
 pub fn name_or(codes: &mut [u64], tables: Tables<'_>, rec: &[u8], h: Header, va: u64, w: u8)
     requires lent { Lent codes.old h rec.now }
     requires w_bound { w < 102 }

@@ -26,6 +26,7 @@ fn is_address(rec: &[u8], h: Header, v: u64) -> bool
 }
 
 // An immediate as a number: negative in the window.
+#[tactic(auto, unfolding(crate::specs::Operand::immediate_number))]
 fn code_immediate(codes: &mut [u64], kind: u8, v: u64)
     requires { 5 ≤ length codes.old }
     ensures { (t s : List ℕ) → Coded t s codes.old codes.new (immediate_number kind v ∷ []) }
@@ -38,6 +39,7 @@ fn code_immediate(codes: &mut [u64], kind: u8, v: u64)
 }
 
 // An immediate: an address in a span by its name, before any sign is asked.
+#[tactic(auto, unfolding(crate::specs::Operand::immediate, tokens::specs::Words::word_token, tokens::specs::Words::words))]
 fn immediate(codes: &mut [u64], tables: Tables<'_>, rec: &[u8], h: Header, kind: u8, v: u64)
     requires { Lent codes.old h rec.now }
     ensures { Coded table_bytes rec.now codes.old codes.new (immediate h rec.now kind v ∷ []) }
@@ -49,22 +51,17 @@ fn immediate(codes: &mut [u64], tables: Tables<'_>, rec: &[u8], h: Header, kind:
 }
 
 // Operand i of a body, read from its slot.
+#[tactic(auto, unfolding(crate::specs::Operand::op_tokens, tokens::specs::Words::word_token, tokens::specs::Words::words))]
 pub fn op(codes: &mut [u64], tables: Tables<'_>, rec: &[u8], h: Header, body: &[u8], i: u8)
     requires { Lent codes.old h rec.now }
     ensures { Coded table_bytes rec.now codes.old codes.new (op_tokens h rec.now body.now i) }
 {
     let kind = op_kind(body, i);
-    if kind == 0 {
-        return code_register(codes, tables, op_register(body, i));
+    match kind {
+        0 => code_register(codes, tables, op_register(body, i)),
+        1 => mem(codes, tables, rec, h, body, true),
+        2 => name_or(codes, tables, rec, h, op_number(body, i), LOC),
+        3..=10 => immediate(codes, tables, rec, h, kind, op_number(body, i)),
+        _ => code_word(codes, tables, UNKNOWN),
     }
-    if kind == 1 {
-        return mem(codes, tables, rec, h, body, true);
-    }
-    if kind == 2 {
-        return name_or(codes, tables, rec, h, op_number(body, i), LOC);
-    }
-    if kind <= 10 {
-        return immediate(codes, tables, rec, h, kind, op_number(body, i));
-    }
-    code_word(codes, tables, UNKNOWN)
 }

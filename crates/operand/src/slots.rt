@@ -24,6 +24,7 @@ fn is_shifted(h: Header, body: &[u8]) -> bool
     (h.shifted == 1) & is_frame(h, memory_base(body)) & (memory_index(body) == 0)
 }
 
+#[tactic(auto, unfolding(crate::specs::Memory::slot_base))]
 pub fn slot_base(h: Header, body: &[u8]) -> u8
     ensures { result ≡ slot_base h body.now }
 {
@@ -41,6 +42,7 @@ fn word_displacement(body: &[u8]) -> i64
 }
 
 // The displacement of a slot: all 64 bits, or the low 16 where it is added to a word register of 16-bit code.
+#[tactic(auto, unfolding(crate::specs::Memory::slot_displacement))]
 fn slot_displacement(h: Header, body: &[u8]) -> i64
     ensures { result ≡ slot_displacement h body.now }
 {
@@ -50,6 +52,7 @@ fn slot_displacement(h: Header, body: &[u8]) -> i64
     signed_at(memory_address(body), 0x8000_0000_0000_0000)
 }
 
+#[tactic(auto, unfolding(crate::specs::Memory::slot_number))]
 pub fn slot_number(h: Header, body: &[u8]) -> Sized
     ensures { result ≡ sized_of (slot_number h body.now) }
 {
@@ -62,6 +65,7 @@ pub fn slot_number(h: Header, body: &[u8]) -> Sized
 }
 
 // By the frame register, or by the stack pointer and not below it.
+#[tactic(auto, unfolding(crate::specs::Memory::is_slot))]
 pub fn is_slot(h: Header, body: &[u8]) -> bool
     ensures { result ≡ is_slot h body.now }
 {
@@ -74,6 +78,7 @@ pub fn is_slot(h: Header, body: &[u8]) -> bool
 }
 
 // The displacement that an address prints: never shifted, by the width of the code or of the register it is added to.
+#[tactic(auto, unfolding(crate::specs::Memory::displacement))]
 fn address_displacement(h: Header, body: &[u8]) -> i64
     ensures { result ≡ displacement h body.now }
 {

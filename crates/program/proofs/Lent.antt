@@ -7,24 +7,27 @@ use native.Mathlib.Omega.{arith}
 use lib.ListN.{length, drop, length-append, length-map, replicate, length-replicate}
 use Rattle.tokens.specs.Listing.{all, listing}
 use Rattle.tokens.proofs.ListingLaws.{lines_length, ends_length, kinds_length}
-use Rattle.rows.specs.Lists.{Lists, lists_of, cut, number_of, answer_for, left, rooms_of}
-use Rattle.rows.proofs.Listed.{refused_some, zeroed, text_size, lines_size, cut_new}
+use Rattle.std.specs.declared.result.Result.{Result}
+use Rattle.std.specs.Prelude.{Ok, Err}
+use Rattle.lists.specs.Question.{number}
+use Rattle.lists.specs.declared.question.Question.{Question}
+use Rattle.lists.proofs.Answered.{number_some, question_is, question_some}
+use Rattle.rows.specs.Lists.{Lists, lists_of, cut, left, rooms_of}
+use Rattle.rows.proofs.Listed.{zeroed, text_size, lines_size, cut_new}
 use Rattle.record.specs.Header.{header_of}
 use Rattle.cfg.specs.Graph.{first_in}
 use Rattle.flow.specs.Rows.{block_rows}
 use Rattle.flow.specs.Planned.{record_plan}
 use Rattle.rows.specs.declared.answer.Sizes.{Sizes}
-use Rattle.rows.specs.declared.answer.Answer.{Answer}
-use Rattle.rows.specs.declared.answer.Answer.TheVariants.{Listed, No}
 use Rattle.pseudo.specs.Listed.{line_address, line_mark, line_place, record_lines, record_lists}
 use Rattle.pseudo.specs.Called.{sizes, call_no, Called}
 use Rattle.pseudo.proofs.Answers.{printed_length}
 use Rattle.page.specs.Page.{refusal, output_for}
 use Rattle.program.specs.Output.{program_rooms, program_no, output_text}
 
-refused_output : (m : ℕ) (d : Sizes) (n : ℕ) (text : List ℕ) → No m ≡ answer_for d n → output_for n text ≡ refusal m
-refused_output m d zero text e = absurd (refused_some m d 0 e refl)
-refused_output m d (suc n) text e = ap refusal (sym (ap number_of e))
+refused_output : (q : Question) (n : ℕ) (text : List ℕ) → n ≡ number q → output_for n text ≡ refusal (number q)
+refused_output q zero text e = absurd (omega (arith, e, number_some q))
+refused_output q (suc n) text e = ap refusal e
 
 roomy : (n k : ℕ) (new old l : List ℕ) → n ≡ 0 → l ≡ left n new old → k ≡ length new → k ≤ length l
 roomy n k new old l z p q =
@@ -42,7 +45,7 @@ lent = lists_of (zeros 65536) (zeros 16384) (zeros 16384) (zeros 900) (zeros 900
 rooms_are : rooms_of lent ≡ program_rooms
 rooms_are = let l = length-replicate {A = ℕ} in rw (l 65536 0, l 16384 0, l 900 0)
 
-module _ (s : List ℕ) (to : ℕ) (whole : to ≡ (header_of s).blocks) (a : Lists) (g : Answer) (called : Called s 0 to lent a g) where
+module _ (s : List ℕ) (to : ℕ) (whole : to ≡ (header_of s).blocks) (a : Lists) (g : Result Sizes Question) (called : Called s 0 to lent a g) where
   abbrev n : ℕ
   n = call_no s 0 to (rooms_of lent)
 
@@ -56,11 +59,11 @@ module _ (s : List ℕ) (to : ℕ) (whole : to ≡ (header_of s).blocks) (a : Li
   unfolding output_text
   output shown = rw (whole, rooms_are)
 
-  pub no_output : (shown : Lists → List ℕ) (j : ℕ) → g ≡ No j → output_text shown s ≡ refusal j
-  no_output shown j h = output shown ∙ refused_output j (sizes s 0 to) n (shown new) (sym h ∙ called.answer)
+  pub no_output : (shown : Lists → List ℕ) (q : Question) → g ≡ Err q → output_text shown s ≡ refusal (number q)
+  no_output shown q h = output shown ∙ refused_output q n (shown new) (question_is n (sizes s 0 to) g q called.answer h)
 
-  pub refused_number : (j : ℕ) → g ≡ No j → program_no s ≡ 0 → ⊥
-  refused_number j h e = refused_some j (sizes s 0 to) n (sym h ∙ called.answer) (number_is ∙ e)
+  pub refused_number : (q : Question) → g ≡ Err q → program_no s ≡ 0 → ⊥
+  refused_number q h e = omega (arith, question_some n (sizes s 0 to) g q called.answer h, number_is, e)
 
   pub many : length new.lines ≡ length new.addresses
   unfolding record_lines
@@ -82,7 +85,7 @@ module _ (s : List ℕ) (to : ℕ) (whole : to ≡ (header_of s).blocks) (a : Li
   unfolding listing
   kinded = let ts = all (record_lines (header_of s) s 0 to) in kinds_length ts ∙ sym (ends_length 0 ts)
 
-  module _ (z : Sizes) (h : g ≡ Listed z) where
+  module _ (z : Sizes) (h : g ≡ Ok z) where
     -- the listing fits the lists
     pub few_lines : z.lines ≤ length a.addresses
     few_lines = roomy n z.lines new.addresses lent.addresses a.addresses (zeroed called z h).0 called.addresses (lines_size called z h)

@@ -25,7 +25,10 @@ use Rattle.record.proofs.AskedLaws.{passed}
 use Rattle.pseudo.specs.Called.{PlanListed}
 use Rattle.pseudo.specs.Coded.{Holds}
 use Rattle.rows.specs.declared.answer.Sizes.{Sizes}
-use Rattle.rows.specs.declared.answer.Answer.TheVariants.{Listed, No}
+use Rattle.std.specs.Prelude.{Ok, Err}
+use Rattle.lists.specs.Question.{number}
+use Rattle.lists.specs.declared.question.Question.{Question}
+use Rattle.lists.proofs.Answered.{number_some}
 
 -- each list has room for its part
 record Fit (new b : Lists) : Type 0 where
@@ -66,16 +69,16 @@ stands_over : (new old l : List ℕ) → length new ≤ length old → l ≡ put
 stands_over new old l h e = e ∙ put_fits 0 new old (omega arith) ∙ rw zero-add
 
 -- a number: nothing was touched
-pub refused : (n : ℕ) (new b : Lists) → (n ≡ 0 → ⊥) → Leaves n new b b (No n)
-refused zero new b q = absurd (q refl)
-refused (suc n) new b q = record { answer = refl; text = refl; ends = refl; kinds = refl; addresses = refl; marks = refl; places = refl; lines = refl }
+pub refused : (n : ℕ) (new b : Lists) (q : Question) → n ≡ number q → Leaves n new b b (Err q)
+refused zero new b q e = absurd (let k = number_some q in omega (arith, e))
+refused (suc n) new b q e = record { answer = e; text = refl; ends = refl; kinds = refl; addresses = refl; marks = refl; places = refl; lines = refl }
 
 -- a listing: each list holds its part
-stored : (n : ℕ) (new b a : Lists) → n ≡ 0 → Fit new b → Stands new b a → Leaves n new b a (Listed (sizes_of new))
+stored : (n : ℕ) (new b a : Lists) → n ≡ 0 → Fit new b → Stands new b a → Leaves n new b a (Ok (sizes_of new))
 stored n new b a d y w =
     rw d
     (record {
-      answer = refl;
+      answer = (refl, refl);
       text = stands_over _ _ _ y.text w.text;
       ends = stands_over _ _ _ y.ends w.ends;
       kinds = stands_over _ _ _ y.kinds w.kinds;
@@ -95,23 +98,26 @@ printed_length h s range mask (l ∷ ls) = ap suc (printed_length h s range (mas
 pub codes_length : (h : Header) (s : List ℕ) (range mask : ℕ) (codes : List ℕ) → length codes ≡ length (printed h s range mask (map line_in codes))
 codes_length h s range mask codes = sym (length-map codes line_in) ∙ sym (printed_length h s range mask (map line_in codes))
 
--- z is the sizes, and n what the questions of room answer
-module _ (h : Header) (s : List ℕ) (range : ℕ) (codes : List ℕ) (b : Lists) (z : Sizes) (n : ℕ)
-    (q : z ≡ sizes_of (plan_lists h s range (map line_in codes))) (p : n ≡ room_no z (rooms_of b)) where
+-- z is the sizes
+module _ (h : Header) (s : List ℕ) (range : ℕ) (codes : List ℕ) (b : Lists) (z : Sizes) (q : z ≡ sizes_of (plan_lists h s range (map line_in codes))) where
   abbrev plan : List Line
   plan = map line_in codes
 
   abbrev new : Lists
   new = plan_lists h s range plan
 
-  asked : n ≡ room_no (sizes_of new) (rooms_of b)
-  asked = p ∙ ap (λ (z : Sizes). room_no z (rooms_of b)) q
+  -- what the questions of room answer
+  abbrev room : ℕ
+  room = room_no z (rooms_of b)
 
-  fits : n ≡ 0 → Fit new b
+  asked : room ≡ room_no (sizes_of new) (rooms_of b)
+  asked = ap (λ (z : Sizes). room_no z (rooms_of b)) q
+
+  fits : room ≡ 0 → Fit new b
   fits o = room_yes h s (printed h s range 0 plan) plan b (printed_length h s range 0 plan) (sym asked ∙ o)
 
   -- no question of room gets a no: there is room for the addresses, marks and places
-  pub plan_room : n ≡ 0 → (length codes ≤ length b.addresses) × (length codes ≤ length b.marks) × (length codes ≤ length b.places)
+  pub plan_room : room ≡ 0 → (length codes ≤ length b.addresses) × (length codes ≤ length b.marks) × (length codes ≤ length b.places)
   plan_room o =
       let count = length-map codes line_in in (
         omega (arith, (fits o).addresses, length-map plan (line_address h s), count),
@@ -120,11 +126,11 @@ module _ (h : Header) (s : List ℕ) (range : ℕ) (codes : List ℕ) (b : Lists
       )
 
   -- no question of room gets a no: the lists are as long as the listing's
-  pub plan_holds : n ≡ 0 → Holds (listing (printed h s range 0 plan)) b.text b.ends b.kinds b.lines
+  pub plan_holds : room ≡ 0 → Holds (listing (printed h s range 0 plan)) b.text b.ends b.kinds b.lines
   plan_holds o = record { text = (fits o).text; ends = (fits o).ends; kinds = (fits o).kinds; lines = (fits o).lines }
 
-  pub plan_refused : (n ≡ 0 → ⊥) → PlanListed h s range plan b b (No n)
-  plan_refused o = rw (← asked) (refused n new b o)
+  pub plan_refused : (k : Question) → room ≡ number k → PlanListed h s range plan b b (Err k)
+  plan_refused k o = refused _ new b k (sym asked ∙ o)
 
-  pub plan_listed : (a : Lists) → n ≡ 0 → Stands new b a → PlanListed h s range plan b a (Listed z)
-  plan_listed a o w = rw (← asked, q) (stored n new b a o (fits o) w)
+  pub plan_listed : (a : Lists) → room ≡ 0 → Stands new b a → PlanListed h s range plan b a (Ok z)
+  plan_listed a o w = rw q (stored _ new b a (sym asked ∙ o) (fits o) w)

@@ -1,7 +1,7 @@
 -- A call on a record and range for which the questions before 12 got a yes lists the record's plan; on any other it answers the
 -- number of the first no. The plan is read back from its codes, which are few, and its lines fit.
-use mathlib.Core.Path.{◌≡◌, refl, sym, ap, ◌∙◌}
-use mathlib.Core.Bool.{Bool, true, false}
+use mathlib.Core.Path.{◌≡◌, refl, ap, ◌∙◌}
+use mathlib.Core.Bool.{true}
 use mathlib.Core.List.{List, [], ◌∷◌, map}
 use Prim.Native.Nat.{ℕ, zero, suc, ◌+◌, ◌-◌, ◌*◌, ◌^◌, ◌≤◌, ◌<◌}
 use native.Mathlib.Nat.{not-suc-le-zero}
@@ -11,12 +11,10 @@ use lib.ListN.{length, take, length-map}
 use Rattle.lists.specs.Bytes.{u32_at}
 use Rattle.lists.specs.Put.{put}
 use Rattle.lists.specs.SignedLaws.{signed_abs}
-use Rattle.rows.specs.Lists.{Lists, sizes_of, answer_for}
+use Rattle.rows.specs.Lists.{Lists, sizes_of}
 use Rattle.record.specs.declared.header.Header.{Header}
-use Rattle.record.specs.declared.asked.Asked.{Asked}
-use Rattle.record.specs.declared.asked.Asked.TheVariants as case
 use Rattle.record.specs.Header.{header_of, limits_ok}
-use Rattle.record.specs.Asked.{answer_of, first_no}
+use Rattle.record.specs.Asked.{or_else, first_no}
 use Rattle.cfg.specs.Graph.{first_in}
 use Rattle.structure.specs.Plan.{code_of}
 use Rattle.structure.specs.Demand.{Shallow}
@@ -40,8 +38,11 @@ use Rattle.pseudo.specs.Listed.{plan_lists, record_lines}
 use Rattle.pseudo.specs.Marks.{Indented}
 use Rattle.pseudo.specs.Called.{Accepted, PlanListed, call_no, Called, sizes, looks_of, LooksCounted}
 use Rattle.rows.specs.declared.answer.Sizes.{Sizes}
-use Rattle.rows.specs.declared.answer.Answer.{Answer}
-use Rattle.rows.specs.declared.answer.Answer.TheVariants.{Listed, No}
+use Rattle.std.specs.declared.result.Result.{Result}
+use Rattle.lists.specs.declared.question.Question.{Question}
+use Rattle.std.specs.Prelude.{Ok, Err}
+use Rattle.lists.specs.Question.{Answers}
+use Rattle.lists.proofs.Answered.{value_is, question_is, number_some}
 use Rattle.pseudo.proofs.Answers.{refused}
 
 -- ---- what an accepted record has
@@ -86,9 +87,9 @@ module _ (s : List ℕ) (from to : ℕ) (h : Header) (a : Accepted s from to h) 
       filled (record_codes h s from to) zeros plan codes n n (omega (arith, p.next)) (omega (arith, p.next, length-map (record_plan h s from to) code_of, record_within h s from to counted in_range, z)) refl p.list q
 
   -- an answer carries the planner's looks, none with a number
-  pub looks_carried : (r : Answer) (n looks : ℕ) → (n ≡ record_looks h s from to) × (n ≤ 5 * (to - from) * h.edges) → looks ≡ looks_of n r → LooksCounted s from to r looks
-  looks_carried (Listed z) n looks p e = record { counted = rw (← a.header) (e ∙ p.0); few = rw (e, ← a.header) p.1 }
-  looks_carried (No k) n looks p e = record { counted = e; few = omega (arith, e) }
+  pub looks_carried : (r : Result Sizes Question) (n looks : ℕ) → (n ≡ record_looks h s from to) × (n ≤ 5 * (to - from) * h.edges) → looks ≡ looks_of n r → LooksCounted s from to r looks
+  looks_carried (Ok z) n looks p e = record { counted = rw (← a.header) (e ∙ p.0); few = rw (e, ← a.header) p.1 }
+  looks_carried (Err k) n looks p e = record { counted = e; few = omega (arith, e) }
 
   module _ (codes : List ℕ) (e : codes ≡ record_codes h s from to) where
     pub lines_are : map line_in codes ≡ record_plan h s from to
@@ -108,7 +109,7 @@ module _ (s : List ℕ) (from to : ℕ) (h : Header) (a : Accepted s from to h) 
     pub plan_indented : Indented codes
     plan_indented = indents codes (rw lines_are (record_shallow h s from to limits in_range))
 
-    pub called : (blocks : List ℕ) (f range : ℕ) (before after : Lists) (r : Answer) → blocks ≡ block_rows h s → f ≡ from → range ≡ first_in blocks f
+    pub called : (blocks : List ℕ) (f range : ℕ) (before after : Lists) (r : Result Sizes Question) → blocks ≡ block_rows h s → f ≡ from → range ≡ first_in blocks f
         → PlanListed h s range (map line_in codes) before after r → Called s from to before after r
     unfolding record_lines call_no
     called blocks f range before after r b g c p = rw (a.yes, ← a.header) (rw (lines_are, c, g, b) at p)
@@ -119,46 +120,20 @@ module _ (s : List ℕ) (from to : ℕ) (h : Header) (a : Accepted s from to h) 
     sized blocks f range z b g c q = rw (← a.header) (rw (lines_are, c, g, b) at q)
 
 -- ---- what the questions answer
-abbrev is_yes : Asked → Bool
-is_yes (case.Yes h) = true
-is_yes (case.No n) = false
+or_else_some : (n later : ℕ) → 1 ≤ n → or_else n later ≡ n
+or_else_some zero later p = absurd (omega arith)
+or_else_some (suc n) later p = refl
 
-abbrev header_in : Header → Asked → Header
-header_in d (case.Yes h) = h
-header_in d (case.No n) = d
+module _ (s : List ℕ) (from to : ℕ) (r : Result Header Question) (v : Answers (first_no s from to) (header_of s) r) where
+  pub accepted : (h : Header) → r ≡ Ok h → Accepted s from to h
+  accepted h e = let w = value_is (first_no s from to) (header_of s) r h v e in record { header = w.1; yes = w.0 }
 
-abbrev number_in : Asked → ℕ
-number_in (case.Yes h) = 0
-number_in (case.No n) = n
+  pub called_no : (q : Question) (b : Lists) → r ≡ Err q → Called s from to b b (Err q)
+  unfolding call_no
+  called_no q b e =
+      let p = question_is (first_no s from to) (header_of s) r q v e in
+      let k = number_some q in
+      refused _ _ b q (or_else_some (first_no s from to) _ (omega (arith, p)) ∙ p)
 
-different : {A : Type 0} → true ≡ false → A
-different e = absurd (let z : ◌≡◌ {A = ℕ} 0 1 = cc in omega arith)
-
-pub accepted : (s : List ℕ) (from to : ℕ) (h : Header) → case.Yes h ≡ answer_of (first_no s from to) (header_of s) → Accepted s from to h
-accepted s from to h e = go (first_no s from to) refl e
-  where
-    go : (n : ℕ) → first_no s from to ≡ n → case.Yes h ≡ answer_of n (header_of s) → Accepted s from to h
-    go zero q e = record { header = ap (header_in h) e; yes = q }
-    go (suc n) q e = different (ap is_yes e)
-
-pub sized_yes : (s : List ℕ) (from to : ℕ) (h : Header) (z : Sizes) → case.Yes h ≡ answer_of (first_no s from to) (header_of s) → z ≡ sizes s from to
-    → Listed z ≡ answer_for (sizes s from to) (first_no s from to)
-sized_yes s from to h z e q = rw ((accepted s from to h e).yes, q)
-
-pub sized_no : (s : List ℕ) (from to n : ℕ) (z : Sizes) → case.No n ≡ answer_of (first_no s from to) (header_of s) → No n ≡ answer_for z (first_no s from to)
-sized_no s from to n z q = go (first_no s from to) q
-  where
-    go : (f : ℕ) → case.No n ≡ answer_of f (header_of s) → No n ≡ answer_for z f
-    go zero q = different (sym (ap is_yes q))
-    go (suc f) q = ap No (ap number_in q)
-
-pub called_no : (s : List ℕ) (from to n : ℕ) (b : Lists) → case.No n ≡ answer_of (first_no s from to) (header_of s) → Called s from to b b (No n)
-unfolding call_no
-called_no s from to n b q = go (first_no s from to) refl q
-  where
-    go : (f : ℕ) → first_no s from to ≡ f → case.No n ≡ answer_of f (header_of s) → Called s from to b b (No n)
-    go zero p q = different (sym (ap is_yes q))
-    go (suc f) p q = rw (p, ap number_in q) (refused (suc f) _ b (λ z. omega arith))
-
-pub looks_no : (s : List ℕ) (from to n looks : ℕ) → looks ≡ 0 → LooksCounted s from to (No n) looks
-looks_no s from to n looks e = record { counted = e; few = omega (arith, e) }
+pub looks_no : (s : List ℕ) (from to looks : ℕ) (q : Question) → looks ≡ 0 → LooksCounted s from to (Err q) looks
+looks_no s from to looks q e = record { counted = e; few = omega (arith, e) }

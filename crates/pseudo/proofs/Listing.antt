@@ -62,6 +62,11 @@ module _ (t s c c' : List ℕ) (ls : List (List Token)) (a : Started c) (g : Cod
         let fits : 5 + count_in c' ≤ length c = omega (arith, part_counted, e) in
         (ap (decode t s) q ∙ read_back t s c c' ls a g few fits, ap (all_in_table (length t)) q ∙ within_back t s c c' ls a g few fits)
 
+-- codes that read back as lines by a table do so by the same table
+pub of_table : (t u s p : List ℕ) (ls : List (List Token)) → t ≡ u → (decode u s p ≡ of_lines ls) × (all_in_table (length u) p ≡ true)
+    → (decode t s p ≡ of_lines ls) × (all_in_table (length t) p ≡ true)
+of_table t u s p ls e h = rw e h
+
 -- ---- lines that lists have room for
 module _ (ls : List (List Token)) (f : Fits ls) (x e k l : List ℕ) (h : Holds (listing ls) x e k l) where
   small_text : length (listing ls).text < 4294967296

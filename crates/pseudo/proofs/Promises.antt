@@ -10,7 +10,7 @@ use lib.ListN.{length, take, drop, length-map}
 use lib.Seq.{take-append-le, take_all}
 use lib.Dec.{leb}
 use Rattle.lists.specs.Choice.{ask}
-use Rattle.rows.specs.Lists.{Lists, lists_of, number_of, room_no, answer_for, over, Leaves, rooms_of, values_of}
+use Rattle.rows.specs.Lists.{Lists, lists_of, room_no, sizes_of, over, Leaves, rooms_of, values_of}
 use Rattle.record.specs.Header.{header_of, header_fits, fields_ok, limits_ok}
 use Rattle.record.specs.Layout.{length_ok}
 use Rattle.record.specs.Asked.{or_else, sizes_no, marks_asked, starts_asked, edge_kinds_asked, bodies_asked, branches_asked, atlas_asked, spans_asked, blocks_no, contents_no, range_no, first_no}
@@ -27,7 +27,11 @@ use Rattle.pseudo.specs.Promise.{held, Promise}
 use Rattle.rows.specs.Rows.{holds_rows}
 use Rattle.rows.specs.declared.answer.Sizes.{Sizes}
 use Rattle.rows.specs.declared.answer.Rooms.{Rooms}
-use Rattle.rows.specs.declared.answer.Answer.{Answer}
+use Rattle.std.specs.declared.result.Result.{Result}
+use Rattle.lists.specs.declared.question.Question.{Question}
+use Rattle.lists.specs.Question.{number_of}
+use Rattle.lists.proofs.Answered.{number_is}
+use Rattle.rows.proofs.Listed.{values_are, no_values}
 use Rattle.tokens.proofs.Lines.{lines_back}
 use Rattle.line.proofs.LinesShown.{conditions_shown, calls_shown}
 use Rattle.pseudo.proofs.Answers.{printed_length}
@@ -82,10 +86,6 @@ call_within s from to r =
     else_kept (λ (n : ℕ). n ≤ 15) (first_no s from to) (room_no (sizes s from to) r)
     (first_kept (λ (n : ℕ). n ≤ 15) (λ n h. omega arith) (le_refl 15) s from to) (room_within (sizes s from to) r)
 
-number_is : (z : Sizes) (n : ℕ) → number_of (answer_for z n) ≡ n
-number_is z zero = refl
-number_is z (suc n) = refl
-
 -- ---- the lists
 
 -- a list that begins with new entries, read back by their number
@@ -103,7 +103,7 @@ lines_each s from to =
     let h = header_of s in
     length-map (record_plan h s from to) (line_address h s) ∙ sym (printed_length h s _ 0 (record_plan h s from to))
 
-module _ (s : List ℕ) (from to : ℕ) (b a : Lists) (r : Answer) (c : Called s from to b a r) where
+module _ (s : List ℕ) (from to : ℕ) (b a : Lists) (r : Result Sizes Question) (c : Called s from to b a r) where
   abbrev rooms : Rooms
   rooms = rooms_of b
 
@@ -114,14 +114,14 @@ module _ (s : List ℕ) (from to : ℕ) (b a : Lists) (r : Answer) (c : Called s
   new = record_lists (header_of s) s from to
 
   number : number_of r ≡ call_no s from to rooms
-  number = ap number_of c.answer ∙ number_is (sizes s from to) (call_no s from to rooms)
+  number = number_is (call_no s from to rooms) (sizes s from to) r c.answer
 
   abbrev Left : ℕ → Type 0
   Left n = Leaves n new b a r
 
   refused : (n : ℕ) → Left n → (n ≡ 0 → ⊥) → (values_of r ≡ record { text = 0; tokens = 0; lines = 0 }) × (a ≡ b)
   refused zero p o = absurd (o refl)
-  refused (suc n) p o = (ap values_of p.answer, same p.text p.ends p.kinds p.addresses p.marks p.places p.lines)
+  refused (suc n) p o = (no_values n (sizes_of new) r p.answer, same p.text p.ends p.kinds p.addresses p.marks p.places p.lines)
 
   listed : (n : ℕ) → Left n → n ≡ 0 → first_no s from to ≡ 0
       → LinesDemand3 s from to (take (values_of r).lines a.addresses) (take (values_of r).lines a.marks) (take (values_of r).lines a.places)
@@ -130,7 +130,7 @@ module _ (s : List ℕ) (from to : ℕ) (b a : Lists) (r : Answer) (c : Called s
   listed zero p z q =
       let d = listing_demand3 s from to q in
       let n = length new.addresses in
-      let size : (values_of r).lines ≡ n = ap (λ (g : Answer). (values_of g).lines) p.answer in
+      let size : (values_of r).lines ≡ n = ap (λ (z : Sizes). z.lines) (values_are (sizes_of new) r p.answer) in
       rw (
         size,
         read_back n new.addresses b.addresses a.addresses refl p.addresses,
@@ -144,7 +144,7 @@ module _ (s : List ℕ) (from to : ℕ) (b a : Lists) (r : Answer) (c : Called s
   loops_held (suc n) p z q = absurd (omega arith)
   loops_held zero p z q =
       let n = length new.addresses in
-      let size : (values_of r).lines ≡ n = ap (λ (g : Answer). (values_of g).lines) p.answer in
+      let size : (values_of r).lines ≡ n = ap (λ (z : Sizes). z.lines) (values_are (sizes_of new) r p.answer) in
       rw (size, read_back n new.addresses b.addresses a.addresses refl p.addresses) (loops_close s from to q)
 
   rows_left : (n : ℕ) → Left n → n ≡ 0 → first_no s from to ≡ 0 → holds_rows a (values_of r).text (values_of r).tokens (values_of r).lines ≡ true
@@ -156,7 +156,7 @@ module _ (s : List ℕ) (from to : ℕ) (b a : Lists) (r : Answer) (c : Called s
   unfolding listing
   lines_held (suc n) p z = absurd (omega arith)
   lines_held zero p z =
-      let size : (values_of r).lines ≡ length ls = ap (λ (g : Answer). (values_of g).lines) p.answer ∙ lines_each s from to in
+      let size : (values_of r).lines ≡ length ls = ap (λ (z : Sizes). z.lines) (values_are (sizes_of new) r p.answer) ∙ lines_each s from to in
       rw (size, p.text, p.ends, p.kinds, p.lines)
       (lines_back ls (drop (length new.text) b.text) (drop (length new.ends) b.ends) (drop (length new.kinds) b.kinds) (drop (length new.lines) b.lines))
 
@@ -176,7 +176,7 @@ module _ (s : List ℕ) (from to : ℕ) (b a : Lists) (r : Answer) (c : Called s
   followed_held zero p z q f t m =
       let h = header_of s in
       let n = length new.addresses in
-      let size : (values_of r).lines ≡ n = ap (λ (g : Answer). (values_of g).lines) p.answer in
+      let size : (values_of r).lines ≡ n = ap (λ (z : Sizes). z.lines) (values_are (sizes_of new) r p.answer) in
       let d = listing_demand3 s from to q in
       let whole = lines_followed s (rw (f, t) at q) m (line_address h s) (λ w k i d e. address_stays h s w k i e) (first_in (block_rows h s) 0) in
       rw (

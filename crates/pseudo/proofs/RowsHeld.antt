@@ -15,7 +15,9 @@ use Rattle.tokens.specs.Listing.{join, all, counts_from, listing}
 use Rattle.tokens.proofs.Fit.{both, join_fit, join_some}
 use Rattle.rows.specs.Lists.{Lists, Leaves, values_of}
 use Rattle.rows.specs.Rows.{Row, row, all_tokens, token_counts, mark_of, row_lists, holds_rows}
-use Rattle.rows.specs.declared.answer.Answer.{Answer}
+use Rattle.std.specs.declared.result.Result.{Result}
+use Rattle.lists.specs.declared.question.Question.{Question}
+use Rattle.rows.specs.declared.answer.Sizes.{Sizes}
 use Rattle.rows.proofs.Back.{fit_row, leaves_rows}
 use Rattle.record.specs.declared.header.Header.{Header}
 use Rattle.record.specs.Header.{header_of}
@@ -116,7 +118,7 @@ module _ (s : List ℕ) (from to : ℕ) (yes : first_no s from to ≡ 0) where
       let small = limits_small h (limits s from to h accepted) in
       shallow_wider (h.indent + (to - from)) 255 (record_plan h s from to) (omega (arith, small.blocks, small.indent, in_range s from to h accepted)) (record_demand3 h s from to).shallow
 
-  pub rows_held : (b a : Lists) (r : Answer) → Leaves 0 (record_lists h s from to) b a r → holds_rows a (values_of r).text (values_of r).tokens (values_of r).lines ≡ true
+  pub rows_held : (b a : Lists) (r : Result Sizes Question) → Leaves 0 (record_lists h s from to) b a r → holds_rows a (values_of r).text (values_of r).tokens (values_of r).lines ≡ true
   unfolding record_lines
   rows_held b a r v =
       let plan = record_plan h s from to in

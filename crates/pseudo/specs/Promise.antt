@@ -2,9 +2,12 @@
 use Rattle.std.specs.Prelude.{ℕ, ◌≤◌, true, List, ◌≡◌, take}
 use Rattle.tokens.specs.Token.{Token}
 use Rattle.tokens.specs.Lines.{lines_in}
-use Rattle.rows.specs.Lists.{Lists, number_of, values_of}
+use Rattle.lists.specs.Question.{number_of}
+use Rattle.rows.specs.Lists.{Lists, values_of}
 use Rattle.rows.specs.Rows.{holds_rows}
-use Rattle.rows.specs.declared.answer.Answer.{Answer}
+use Rattle.std.specs.declared.result.Result.{Result}
+use Rattle.lists.specs.declared.question.Question.{Question}
+use Rattle.rows.specs.declared.answer.Sizes.{Sizes}
 use Rattle.record.specs.Header.{header_of}
 use Rattle.flow.specs.Planned.{record_plan}
 use Rattle.line.specs.Shown.{ConditionsShown, CallsShown}
@@ -16,10 +19,10 @@ use Rattle.pseudo.specs.Demand.{LinesDemand3}
 use Rattle.pseudo.specs.Loops.{LoopsClose}
 
 -- the lines of tokens that the lists hold
-abbrev pub held : Lists → Answer → List (List Token)
+abbrev pub held : Lists → Result Sizes Question → List (List Token)
 held a r = lines_in a.text a.ends a.kinds a.lines (values_of r).lines
 
-pub record Promise (s : List ℕ) (from to : ℕ) (b a : Lists) (r : Answer) (looks : ℕ) : Type 0 where
+pub record Promise (s : List ℕ) (from to : ℕ) (b a : Lists) (r : Result Sizes Question) (looks : ℕ) : Type 0 where
   -- the number is that of the first question that gets a no, the sizes are the defined listing's, and each list begins with it and is
   -- unchanged past it
   pub called : Called s from to b a r

@@ -2,26 +2,27 @@
 ghost use Rattle.std.specs.Prelude.{◌≡◌};
 ghost use Rattle.pseudo.specs.Called.{looks_of};
 
-use rows::answer::Answer;
+use lists::question::Question;
+use rows::answer::Sizes;
 
 #[derive(Clone, Copy)]
 pub struct Answered {
-    pub answer: Answer,
+    pub answer: Result<Sizes, Question>,
     pub looks: u64,
 }
 
 // An answer with the looks that were made for it: a refusal reports none.
-pub fn with_looks(answer: Answer, looks: u64) -> Answered
+pub fn with_looks(answer: Result<Sizes, Question>, looks: u64) -> Answered
     ensures answer { result.answer ≡ answer }
     ensures looks { result.looks ≡ looks_of looks answer }
 {
     match answer {
-        Answer::Listed(z) => Answered {
-            answer: Answer::Listed(z),
+        Ok(z) => Answered {
+            answer: Ok(z),
             looks,
         },
-        Answer::No(n) => Answered {
-            answer: Answer::No(n),
+        Err(q) => Answered {
+            answer: Err(q),
             looks: 0,
         },
     }

@@ -1,10 +1,8 @@
 // The call that lists a range.
 ghost use Rattle.std.specs.Prelude.{map, ◌≡◌, ◌+◌, ◌*◌, ◌≤◌, length};
-ghost use Rattle.codes.specs.Tables.{table_bytes};
 ghost use Rattle.rows.specs.Lists.{lists_of};
 ghost use Rattle.operand.specs.Lent.{Rising, Lent};
 ghost use Rattle.flow.specs.Rows.{block_rows};
-ghost use Rattle.line.specs.Codes.{row_bytes};
 ghost use Rattle.line.specs.Lines.{line_in};
 ghost use Rattle.line.specs.Print.{printed};
 ghost use Rattle.line.specs.Fits.{Fits};
@@ -16,16 +14,17 @@ use crate::answered::{Answered, with_looks};
 use crate::coding::code_plan;
 use crate::marks::put_marks;
 use crate::writing::write_plan;
-use codes::tables::{isa_of, tables};
+use codes::tables::{Tables, token_table};
 use flow::planned::plan_record;
 use flow::rows::block_rows;
-use line::rows::row_table;
+use line::rows::{Rows, row_table};
 use lists::parts::part;
+use lists::question::Question;
 use lists::reads::element_or;
-use record::asked::{Asked, record};
+use record::asked::record;
 use record::header::Header;
 use record::layout::size;
-use rows::answer::{Answer, Rooms, Sizes, room_no};
+use rows::answer::{Rooms, Sizes, ask_room};
 
 // The listing of a plan by way of its codes, if the lists have room for it: no list but that of the codes is touched before they are asked.
 fn list_coded(
@@ -37,16 +36,15 @@ fn list_coded(
     places: &mut [u16],
     lines: &mut [u32],
     codes: &mut [u64],
-    tables: &[u8],
+    tables: Tables<'_>,
     rec: &[u8],
     h: Header,
-    rows: &[u8],
+    rows: Rows<'_>,
     blocks: &[u16],
     range: u16,
     plan: &[u64],
-) -> Answer
-    requires lent { Lent codes.old tables.now h rec.now }
-    requires rows_value { rows.now ≡ row_bytes }
+) -> Result<Sizes, Question>
+    requires lent { Lent codes.old h rec.now }
     requires blocks_value { blocks.now ≡ block_rows h rec.now }
     requires fits { Fits (printed h rec.now range 0 (map line_in plan.now)) }
     requires indented { Indented plan.now }
@@ -64,15 +62,12 @@ fn list_coded(
         places: places.len(),
         lines: lines.len(),
     };
-    let no = room_no(sizes, rooms);
-    if no != 0 {
-        return Answer::No(no);
-    }
+    ask_room(sizes, rooms)?;
     write_plan(
         text, ends, kinds, lines, codes, tables, rec, h, rows, blocks, range, plan,
     );
     put_marks(addresses, marks, places, rec, h, plan);
-    Answer::Listed(sizes)
+    Ok(sizes)
 }
 
 // The listing of a plan. The list of codes has room for most listings of so many lines; a shorter one costs less to make.
@@ -84,16 +79,15 @@ fn list_plan(
     marks: &mut [u16],
     places: &mut [u16],
     lines: &mut [u32],
-    tables: &[u8],
+    tables: Tables<'_>,
     rec: &[u8],
     h: Header,
-    rows: &[u8],
+    rows: Rows<'_>,
     blocks: &[u16],
     range: u16,
     plan: &[u64],
-) -> Answer
-    requires tables_value { (tables.now ≡ table_bytes) × Rising h rec.now }
-    requires rows_value { rows.now ≡ row_bytes }
+) -> Result<Sizes, Question>
+    requires rising { Rising h rec.now }
     requires blocks_value { blocks.now ≡ block_rows h rec.now }
     requires fits { Fits (printed h rec.now range 0 (map line_in plan.now)) }
     requires indented { Indented plan.now }
@@ -132,16 +126,15 @@ fn list_planned(
     places: &mut [u16],
     lines: &mut [u32],
     made: &mut [u64],
-    tables: &[u8],
+    tables: Tables<'_>,
     rec: &[u8],
     h: Header,
-    rows: &[u8],
+    rows: Rows<'_>,
     blocks: &[u16],
     from: u16,
     to: u16,
 ) -> Answered
-    requires tables_value { (tables.now ≡ table_bytes) × Rising h rec.now }
-    requires rows_value { rows.now ≡ row_bytes }
+    requires rising { Rising h rec.now }
     requires blocks_value { blocks.now ≡ block_rows h rec.now }
     requires accepted { Accepted rec.now from to h }
     requires blocks_in_bounds { h.instructions + 2 * h.blocks ≤ length made.old }
@@ -150,7 +143,7 @@ fn list_planned(
         (lists_of text.new ends.new kinds.new addresses.new marks.new places.new lines.new) result.answer }
     ensures looks { LooksCounted rec.now from to result.answer result.looks }
 {
-    let planned = plan_record(isa_of(tables), rec, h, blocks, from, to, made);
+    let planned = plan_record(tables.isa(), rec, h, blocks, from, to, made);
     let plan = part(made, 0, planned.next);
     let range = element_or(blocks, 8 * size(from), 0);
     let answer = list_plan(
@@ -184,10 +177,10 @@ fn list_range(
         (lists_of text.new ends.new kinds.new addresses.new marks.new places.new lines.new) result.answer }
     ensures looks { LooksCounted rec.now from to result.answer result.looks }
 {
-    let table = tables();
-    let tables: &[u8] = &table;
+    let table = token_table();
+    let tables = Tables { bytes: &table };
     let row = row_table();
-    let rows: &[u8] = &row;
+    let rows = Rows { bytes: &row };
     block_rows(rec, h, block);
     let blocks = part(block, 0, 8 * size(h.blocks));
     list_planned(
@@ -250,8 +243,8 @@ pub fn list(
         (lists_of text.new ends.new kinds.new addresses.new marks.new places.new lines.new) result.answer result.looks }
 {
     match record(rec, from, to) {
-        Asked::No(n) => with_looks(Answer::No(n), 0),
-        Asked::Yes(h) => list_accepted(
+        Err(q) => with_looks(Err(q), 0),
+        Ok(h) => list_accepted(
             text,
             ends,
             kinds,

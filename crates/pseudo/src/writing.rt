@@ -7,7 +7,6 @@ ghost use Rattle.tokens.specs.Listing.{listing, pushes_of};
 ghost use Rattle.operand.specs.Lent.{Rising};
 ghost use Rattle.operand.specs.Lent.{Lent};
 ghost use Rattle.flow.specs.Rows.{block_rows};
-ghost use Rattle.line.specs.Codes.{row_bytes};
 ghost use Rattle.line.specs.Fits.{Fits};
 ghost use Rattle.line.specs.Lines.{line_in};
 ghost use Rattle.line.specs.Print.{printed};
@@ -15,7 +14,9 @@ ghost use Rattle.pseudo.specs.Coded.{HoldsLines, Holds, Printed};
 
 use codes::read::codes_of;
 use codes::state::start;
+use codes::tables::Tables;
 use line::coded::{code_lines, mask_after};
+use line::rows::Rows;
 use record::header::Header;
 use writer::write::{Cursor, write_codes, write_listing};
 
@@ -27,17 +28,16 @@ fn write_part(
     lines: &mut [u32],
     p: Cursor,
     codes: &mut [u64],
-    tables: &[u8],
+    tables: Tables<'_>,
     rec: &[u8],
     h: Header,
-    rows: &[u8],
+    rows: Rows<'_>,
     blocks: &[u16],
     range: u16,
     mask: u16,
     plan: &[u64],
 ) -> Cursor
-    requires lent { Lent codes.old tables.now h rec.now }
-    requires rows_value { rows.now ≡ row_bytes }
+    requires lent { Lent codes.old h rec.now }
     requires blocks_value { blocks.now ≡ block_rows h rec.now }
     requires plan_in_bounds { 5 + (2 * pushes_of (printed h rec.now range mask (map line_in plan.now)) + length plan.now) ≤ length codes.old }
     requires room { Room (length text.old) (length ends.old) (length kinds.old) (length lines.old) p (of_lines (printed h rec.now range mask (map line_in plan.now))) }
@@ -46,7 +46,16 @@ fn write_part(
 {
     start(codes);
     code_lines(codes, tables, rec, h, rows, blocks, range, mask, plan);
-    write_codes(text, ends, kinds, lines, p, tables, rec, codes_of(codes))
+    write_codes(
+        text,
+        ends,
+        kinds,
+        lines,
+        p,
+        tables.bytes,
+        rec,
+        codes_of(codes),
+    )
 }
 
 // The lines one by one: the list of codes has room for any one of them.
@@ -55,16 +64,15 @@ fn write_turns(
     ends: &mut [u32],
     kinds: &mut [u8],
     lines: &mut [u32],
-    tables: &[u8],
+    tables: Tables<'_>,
     rec: &[u8],
     h: Header,
-    rows: &[u8],
+    rows: Rows<'_>,
     blocks: &[u16],
     range: u16,
     plan: &[u64],
 )
-    requires tables_value { (tables.now ≡ table_bytes) × Rising h rec.now }
-    requires rows_value { rows.now ≡ row_bytes }
+    requires rising { Rising h rec.now }
     requires blocks_value { blocks.now ≡ block_rows h rec.now }
     requires fits { Fits (printed h rec.now range 0 (map line_in plan.now)) }
     requires holds { Holds (listing (printed h rec.now range 0 (map line_in plan.now))) text.old ends.old kinds.old lines.old }
@@ -106,25 +114,24 @@ pub fn write_plan(
     kinds: &mut [u8],
     lines: &mut [u32],
     codes: &[u64],
-    tables: &[u8],
+    tables: Tables<'_>,
     rec: &[u8],
     h: Header,
-    rows: &[u8],
+    rows: Rows<'_>,
     blocks: &[u16],
     range: u16,
     plan: &[u64],
 )
-    requires lent { Lent codes.now tables.now h rec.now }
-    requires rows_value { rows.now ≡ row_bytes }
+    requires lent { Lent codes.now h rec.now }
     requires blocks_value { blocks.now ≡ block_rows h rec.now }
     requires fits { Fits (printed h rec.now range 0 (map line_in plan.now)) }
     requires holds { Holds (listing (printed h rec.now range 0 (map line_in plan.now))) text.old ends.old kinds.old lines.old }
-    requires holds_lines { HoldsLines tables.now rec.now codes.now (printed h rec.now range 0 (map line_in plan.now)) }
+    requires holds_lines { HoldsLines table_bytes rec.now codes.now (printed h rec.now range 0 (map line_in plan.now)) }
     ensures { Printed (listing (printed h rec.now range 0 (map line_in plan.now))) text.old text.new
         ends.old ends.new kinds.old kinds.new lines.old lines.new }
 {
     if codes[2] as usize <= codes.len() - 5 {
-        write_listing(text, ends, kinds, lines, tables, rec, codes_of(codes));
+        write_listing(text, ends, kinds, lines, tables.bytes, rec, codes_of(codes));
     } else {
         write_turns(
             text, ends, kinds, lines, tables, rec, h, rows, blocks, range, plan,

@@ -1,13 +1,15 @@
 // Replays stored calls: a corpus of records with the Rust's answers, read from standard input. docs/COMPARISON.md has its format.
 #![tactic(auto)]
 
-ghost use Rattle.std.specs.Prelude.{◌≡◌, ◌<◌, ◌≤◌, length};
+ghost use Rattle.std.specs.Prelude.{◌≡◌, ◌<◌, ◌≤◌, ℕ, length, map};
 ghost use Rattle.replay.specs.Sum.{turn, sum_from, wide_from};
 
 use lists::parts::{from as part_from, part};
+use lists::question::Question;
 use lists::reads::{u32_at, u64_at};
 use pseudo::call::list;
-use rows::answer::Answer;
+use rows::answer::Sizes;
+use rows::listing::Listing;
 use std::io::Read;
 
 // One number more in a sum.
@@ -19,42 +21,25 @@ fn next(h: u64, x: u64) -> u64
     (1000003 * h + x) % 4294967311
 }
 
-fn sum_u8(s: &[u8]) -> u64
-    ensures { result ≡ sum_from 1 s.now }
+// The sum of a list's numbers.
+fn sum<T: Copy + Into<u32>>(s: &[T]) -> u64
+    ensures { (value : T → ℕ) → ((x : T) (n : ℕ) → T.converts x n → n ≡ value x) → result ≡ sum_from 1 (map value s.now) }
 {
     let mut h: u64 = 1;
-    for i in 0..s.len() {
-        h = next(h, s[i] as u64);
+    for &x in s {
+        let n: u32 = x.into();
+        h = next(h, n.into());
     }
     h
 }
 
-fn sum_u16(s: &[u16]) -> u64
-    ensures { result ≡ sum_from 1 s.now }
-{
-    let mut h: u64 = 1;
-    for i in 0..s.len() {
-        h = next(h, s[i] as u64);
-    }
-    h
-}
-
-fn sum_u32(s: &[u32]) -> u64
-    ensures { result ≡ sum_from 1 s.now }
-{
-    let mut h: u64 = 1;
-    for i in 0..s.len() {
-        h = next(h, s[i] as u64);
-    }
-    h
-}
-
+// The sum of a list of 64-bit numbers, each as its low half and its high half.
 fn sum_u64(s: &[u64]) -> u64
     ensures { result ≡ wide_from 1 s.now }
 {
     let mut h: u64 = 1;
-    for i in 0..s.len() {
-        h = next(next(h, s[i] % 4294967296), s[i] / 4294967296);
+    for &x in s {
+        h = next(next(h, x % 4294967296), x / 4294967296);
     }
     h
 }
@@ -66,45 +51,31 @@ fn field(case: &[u8], at: usize) -> usize
     u32_at(case, at) as usize
 }
 
-// The answer and the sizes that the case has.
-fn answers(case: &[u8], answer: Answer) -> bool {
-    match answer {
-        Answer::Listed(z) => {
-            (field(case, 32) == 0)
-                & (field(case, 36) == z.text)
-                & (field(case, 40) == z.tokens)
-                & (field(case, 44) == z.lines)
-        }
-        Answer::No(n) => {
-            (field(case, 32) == n as usize)
-                & (field(case, 36) == 0)
-                & (field(case, 40) == 0)
-                & (field(case, 44) == 0)
-        }
-    }
+// The number of the answer and the sizes that the case has.
+fn answers(case: &[u8], answer: Result<Sizes, Question>) -> bool {
+    let (no, text, tokens, lines) = match answer {
+        Ok(z) => (0, z.text, z.tokens, z.lines),
+        Err(q) => (u8::from(q), 0, 0, 0),
+    };
+    (field(case, 32) == usize::from(no))
+        & (field(case, 36) == text)
+        & (field(case, 40) == tokens)
+        & (field(case, 44) == lines)
 }
 
 // The sums of the lists after the call.
-fn sums(
-    case: &[u8],
-    text: &[u8],
-    ends: &[u32],
-    kinds: &[u8],
-    addresses: &[u64],
-    marks: &[u16],
-    places: &[u16],
-    lines: &[u32],
-) -> bool {
-    (u64_at(case, 64) == sum_u8(text))
-        & (u64_at(case, 72) == sum_u32(ends))
-        & (u64_at(case, 80) == sum_u8(kinds))
-        & (u64_at(case, 88) == sum_u64(addresses))
-        & (u64_at(case, 96) == sum_u16(marks))
-        & (u64_at(case, 104) == sum_u16(places))
-        & (u64_at(case, 112) == sum_u32(lines))
+fn sums(case: &[u8], l: &Listing<'_>) -> bool {
+    (u64_at(case, 64) == sum(l.text))
+        & (u64_at(case, 72) == sum(l.ends))
+        & (u64_at(case, 80) == sum(l.kinds))
+        & (u64_at(case, 88) == sum_u64(l.addresses))
+        & (u64_at(case, 96) == sum(l.marks))
+        & (u64_at(case, 104) == sum(l.places))
+        & (u64_at(case, 112) == sum(l.lines))
 }
 
 // Makes the call of a case on lists of the lengths that it has, and compares what it answers and leaves.
+// Seven lists are seven parameters where they are filled: of a struct of seven `&mut` lists the proof did not close.
 fn replay(
     case: &[u8],
     text: &mut [u8],
@@ -128,8 +99,16 @@ fn replay(
         places,
         lines,
     );
-    let answer = listed.answer;
-    answers(case, answer) & sums(case, text, ends, kinds, addresses, marks, places, lines)
+    let left = Listing {
+        text,
+        ends,
+        kinds,
+        addresses,
+        marks,
+        places,
+        lines,
+    };
+    answers(case, listed.answer) & sums(case, &left)
 }
 
 // The lists as long as the case says.
@@ -187,7 +166,7 @@ fn replay_case(case: &[u8]) -> bool {
 fn differs(case: &[u8]) -> u64
     ensures { result < 2 }
 {
-    if replay_case(case) { 0 } else { 1 }
+    u64::from(!replay_case(case))
 }
 
 fn show(rt: &impl Print, n: u64, what: &[u8]) {
@@ -200,18 +179,17 @@ fn replay_all(rt: &impl Print, corpus: &[u8]) {
     let count = u32_at(corpus, 0) as u64;
     let mut at: usize = 4;
     let mut differ: u64 = 0;
-    let mut n: u64 = 0;
-    while n < count {
+    for _n in 0..count {
         let case = part_from(corpus, at);
         differ += differs(case);
         at = at.min(1000000) + 120 + field(case, 0);
-        n += 1;
     }
     show(rt, count, b" replayed, ");
     show(rt, differ, b" differ\n");
 }
 
 // Reads until the list is full, the input ends or a read fails; answers how many bytes that is.
+// It is not stdio's `read_input`, which does not tell how many bytes came before a read failed.
 fn read_full(from: &mut impl Read, list: &mut [u8]) -> usize
     ensures { result ≤ length list.old }
 {

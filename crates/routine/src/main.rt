@@ -53,5 +53,10 @@ fn main(rt: HostRuntime) {
     );
     let mut out = [0u8; 405];
     let m = answer(part(&text, 0, n), &mut out);
-    let _ = print_answer(part(&out, 0, m), b"routine", &rt, &rt.stderr());
+    let _ = print_answer(
+        part(&out, 0, m),
+        b"routine",
+        &mut rt.stdout(),
+        &mut rt.stderr(),
+    );
 }

@@ -1,8 +1,8 @@
 -- A call that answered a listing: the first entries of each list, as many as its size says, are its part of the new ones; and lists that
 -- suffice. The answer tells the number 0 from all others, and with 0 each list begins with what is new.
-use mathlib.Core.Path.{◌≡◌, sym, ap, ◌∙◌}
+use mathlib.Core.Path.{◌≡◌, refl, sym, ap, ◌∙◌}
 use mathlib.Core.List.{List}
-use Prim.Native.Nat.{ℕ, ◌≤◌}
+use Prim.Native.Nat.{ℕ, suc, ◌≤◌}
 use native.Mathlib.Omega.{arith}
 use lib.ListN.{length, take, drop}
 use lib.Seq.{take-append_seam}
@@ -20,6 +20,11 @@ use Rattle.lists.specs.declared.question.Question.{Question}
 pub values_are : (z : Sizes) (r : Result Sizes Question) → Answers 0 z r → values_of r ≡ z
 values_are z (Ok y) v = v.1
 values_are z (Err q) v = let k = number_some q in absurd (omega (arith, v))
+
+-- with another number they are zero
+pub no_values : (n : ℕ) (z : Sizes) (r : Result Sizes Question) → Answers (suc n) z r → values_of r ≡ record { text = 0; tokens = 0; lines = 0 }
+no_values n z (Ok y) v = absurd (omega (arith, v.0))
+no_values n z (Err q) v = refl
 
 -- questions 12 to 14 get a yes
 pub suffice : (z : Sizes) (r : Rooms) → z.text ≤ r.text → z.tokens ≤ r.ends → z.tokens ≤ r.kinds → z.lines ≤ r.addresses → z.lines ≤ r.marks → z.lines ≤ r.places → z.lines ≤ r.lines

@@ -6,9 +6,9 @@ ghost use Rattle.structure.specs.Looks.{label_looks};
 ghost use Rattle.structure.specs.Codes.{codes, head_lines};
 ghost use Rattle.structure.specs.Stored.{Stored, Room};
 
-use crate::lines::{label, one_less, put_line, shown_lines};
+use crate::lines::{label, put_line, shown_lines};
 use cfg::edges::Looked;
-use cfg::graph::{branch_to, count_in, ending_in, first_in, label_wanted, last_in};
+use cfg::graph::{Graph, branch_to, count_in, ending_in, first_in, label_wanted, last_in};
 use cfg::tests::has_outside_jump_to;
 use record::blocks::Place;
 
@@ -21,27 +21,19 @@ pub struct Written {
 
 // Whether the block at place i of a range has a label: the outside test is asked only of a range's first block.
 #[tactic(auto, unfolding(crate::specs::Looks::label_looks))]
-fn is_labelled(
-    blocks: &[u16],
-    edges: &[u16],
-    count: u16,
-    from: Place,
-    i: Place,
-    to: Place,
-) -> Looked
-    requires in_turn { InTurn blocks.now edges.now count }
-    requires from_le_to { (from.0 ≤ to.0) × (to.0 ≤ count) }
-    ensures found { result.found ≡ labelled blocks.now edges.now count from.0 i.0 to.0 }
-    ensures looks { (result.looks ≡ label_looks blocks.now edges.now count from.0 i.0 to.0) × (result.looks ≤ edges_before blocks.now count) }
+fn is_labelled(g: &Graph<'_>, from: Place, i: Place, to: Place) -> Looked
+    requires from_le_to { (from.0 ≤ to.0) × (to.0 ≤ g.now.count) }
+    ensures found { result.found ≡ labelled g.now.blocks.now g.now.edges.now g.now.count from.0 i.0 to.0 }
+    ensures looks { (result.looks ≡ label_looks g.now.blocks.now g.now.edges.now g.now.count from.0 i.0 to.0) × (result.looks ≤ edges_before g.now.blocks.now g.now.count) }
 {
-    if label_wanted(blocks, i) {
+    if label_wanted(g.blocks, i) {
         if from < i {
             return Looked {
                 found: true,
                 looks: 0,
             };
         }
-        return has_outside_jump_to(blocks, edges, count, from, to, i);
+        return has_outside_jump_to(g.blocks, g.edges, g.count, from, to, i);
     }
     Looked {
         found: false,
@@ -50,31 +42,25 @@ fn is_labelled(
 }
 
 // How many instructions stand before a closing conditional branch or direct jmp.
+#[tactic(auto, unfolding(crate::specs::Plan::body_count))]
 fn body_count(blocks: &[u16], k: Place) -> u32
     ensures { (result ≡ body_count blocks.now k.0) × (result < 65536) }
 {
     let n = count_in(blocks, k) as u32;
     let ending = ending_in(blocks, k);
     if (ending == 2) | (ending == 3) {
-        return one_less(n);
+        return n.saturating_sub(1);
     }
     n
 }
 
-fn body_lines(
-    blocks: &[u16],
-    shown: &[u8],
-    k: Place,
-    indent: u32,
-    out: &mut [u64],
-    at: usize,
-) -> usize
-    requires { (indent < 131072) × Room at (codes (body_lines blocks.now shown.now k.0 indent)) }
-    ensures { Stored out.old at (codes (body_lines blocks.now shown.now k.0 indent)) result out.new }
+fn body_lines(g: &Graph<'_>, k: Place, indent: u32, out: &mut [u64], at: usize) -> usize
+    requires { (indent < 131072) × Room at (codes (body_lines g.now.blocks.now g.now.shown.now k.0 indent)) }
+    ensures { Stored out.old at (codes (body_lines g.now.blocks.now g.now.shown.now k.0 indent)) result out.new }
 {
-    let first = first_in(blocks, k) as u32;
-    let n = body_count(blocks, k);
-    shown_lines(shown, k, first, n, indent, out, at)
+    let first = first_in(g.blocks, k) as u32;
+    let n = body_count(g.blocks, k);
+    shown_lines(g.shown, k, first, n, indent, out, at)
 }
 
 // A direct jmp goes to the next place, and that lies in the range.
@@ -124,8 +110,7 @@ fn closing_line(
 
 // The block at place k of a range that ends at `to`: its label, if wanted, its instructions, its closing branch or jmp.
 pub fn emit_block(
-    blocks: &[u16],
-    shown: &[u8],
+    g: &Graph<'_>,
     wanted: bool,
     k: Place,
     to: Place,
@@ -133,20 +118,17 @@ pub fn emit_block(
     out: &mut [u64],
     at: usize,
 ) -> usize
-    requires { (indent < 131072) × Room at (codes (block_lines blocks.now shown.now wanted k.0 to.0 indent)) }
-    ensures { Stored out.old at (codes (block_lines blocks.now shown.now wanted k.0 to.0 indent)) result out.new }
+    requires { (indent < 131072) × Room at (codes (block_lines g.now.blocks.now g.now.shown.now wanted k.0 to.0 indent)) }
+    ensures { Stored out.old at (codes (block_lines g.now.blocks.now g.now.shown.now wanted k.0 to.0 indent)) result out.new }
 {
     let n = label(out, at, wanted, k, indent);
-    let m = body_lines(blocks, shown, k, indent, out, n);
-    closing_line(blocks, k, to, indent, out, m)
+    let m = body_lines(g, k, indent, out, n);
+    closing_line(g.blocks, k, to, indent, out, m)
 }
 
 // A plain block at place i of the range from `from` up to `to`.
 pub fn emit_plain(
-    blocks: &[u16],
-    edges: &[u16],
-    shown: &[u8],
-    count: u16,
+    g: &Graph<'_>,
     from: Place,
     i: Place,
     to: Place,
@@ -154,14 +136,13 @@ pub fn emit_plain(
     out: &mut [u64],
     at: usize,
 ) -> Written
-    requires from_le_to { (from.0 ≤ to.0) × (to.0 ≤ count) × (indent < 131072) }
-    requires in_turn { InTurn blocks.now edges.now count }
-    requires room { Room at (codes (plain_lines blocks.now edges.now shown.now count from.0 i.0 to.0 indent)) }
-    ensures lines { Stored out.old at (codes (plain_lines blocks.now edges.now shown.now count from.0 i.0 to.0 indent)) result.next out.new }
-    ensures looks { (result.looks ≡ label_looks blocks.now edges.now count from.0 i.0 to.0) × (result.looks ≤ edges_before blocks.now count) }
+    requires from_le_to { (from.0 ≤ to.0) × (to.0 ≤ g.now.count) × (indent < 131072) }
+    requires room { Room at (codes (plain_lines g.now.blocks.now g.now.edges.now g.now.shown.now g.now.count from.0 i.0 to.0 indent)) }
+    ensures lines { Stored out.old at (codes (plain_lines g.now.blocks.now g.now.edges.now g.now.shown.now g.now.count from.0 i.0 to.0 indent)) result.next out.new }
+    ensures looks { (result.looks ≡ label_looks g.now.blocks.now g.now.edges.now g.now.count from.0 i.0 to.0) × (result.looks ≤ edges_before g.now.blocks.now g.now.count) }
 {
-    let wanted = is_labelled(blocks, edges, count, from, i, to);
-    let next = emit_block(blocks, shown, wanted.found, i, to, indent, out, at);
+    let wanted = is_labelled(g, from, i, to);
+    let next = emit_block(g, wanted.found, i, to, indent, out, at);
     Written {
         next,
         looks: wanted.looks,
@@ -170,10 +151,7 @@ pub fn emit_plain(
 
 // The block of an if-region, with its opening line.
 pub fn emit_head(
-    blocks: &[u16],
-    edges: &[u16],
-    shown: &[u8],
-    count: u16,
+    g: &Graph<'_>,
     from: Place,
     i: Place,
     to: Place,
@@ -181,16 +159,15 @@ pub fn emit_head(
     out: &mut [u64],
     at: usize,
 ) -> Written
-    requires from_le_to { (from.0 ≤ to.0) × (to.0 ≤ count) × (indent < 131072) }
-    requires in_turn { InTurn blocks.now edges.now count }
-    requires room { Room at (codes (head_lines blocks.now edges.now shown.now count from.0 i.0 to.0 indent)) }
-    ensures lines { Stored out.old at (codes (head_lines blocks.now edges.now shown.now count from.0 i.0 to.0 indent)) result.next out.new }
-    ensures looks { (result.looks ≡ label_looks blocks.now edges.now count from.0 i.0 to.0) × (result.looks ≤ edges_before blocks.now count) }
+    requires from_le_to { (from.0 ≤ to.0) × (to.0 ≤ g.now.count) × (indent < 131072) }
+    requires room { Room at (codes (head_lines g.now.blocks.now g.now.edges.now g.now.shown.now g.now.count from.0 i.0 to.0 indent)) }
+    ensures lines { Stored out.old at (codes (head_lines g.now.blocks.now g.now.edges.now g.now.shown.now g.now.count from.0 i.0 to.0 indent)) result.next out.new }
+    ensures looks { (result.looks ≡ label_looks g.now.blocks.now g.now.edges.now g.now.count from.0 i.0 to.0) × (result.looks ≤ edges_before g.now.blocks.now g.now.count) }
 {
-    let wanted = is_labelled(blocks, edges, count, from, i, to);
+    let wanted = is_labelled(g, from, i, to);
     let n = label(out, at, wanted.found, i, indent);
-    let m = body_lines(blocks, shown, i, indent, out, n);
-    let next = put_line(out, m, 2, i, last_in(blocks, i), indent);
+    let m = body_lines(g, i, indent, out, n);
+    let next = put_line(out, m, 2, i, last_in(g.blocks, i), indent);
     Written {
         next,
         looks: wanted.looks,

@@ -16,6 +16,7 @@ fn line_code(what: u64, k: Place, i: u32, indent: u32) -> u64
 }
 
 // One line: what it is, its place, its instruction, its indent.
+#[tactic(auto, unfolding(lists::specs::Put::put))]
 pub fn put_line(out: &mut [u64], at: usize, what: u64, k: Place, i: u32, indent: u32) -> usize
     requires { (what < 16) × (i < 131072) × (indent < 131072) × Room at (line_code what k.0 i indent ∷ []) }
     ensures { Stored out.old at (line_code what k.0 i indent ∷ []) result out.new }
@@ -24,19 +25,13 @@ pub fn put_line(out: &mut [u64], at: usize, what: u64, k: Place, i: u32, indent:
     at + 1
 }
 
-pub fn one_less(d: u32) -> u32
-    ensures { result ≡ d - 1 }
-{
-    if d == 0 { 0 } else { d - 1 }
-}
-
 // A label, if wanted.
 pub fn label(out: &mut [u64], at: usize, wanted: bool, k: Place, indent: u32) -> usize
     requires { (indent < 131072) × Room at (codes (label_if wanted k.0 indent)) }
     ensures { Stored out.old at (codes (label_if wanted k.0 indent)) result out.new }
 {
     if wanted {
-        return put_line(out, at, 0, k, 0, one_less(indent));
+        return put_line(out, at, 0, k, 0, indent.saturating_sub(1));
     }
     at
 }

@@ -1,13 +1,13 @@
 -- A number's decimal digits: how many there are, and what a store of one leaves.
 -- The text of w is that of w / 10 and one digit, and the last of a text may be stored first.
 use mathlib.Core.Path.{◌≡◌, refl, sym, ap, ◌∙◌}
-use mathlib.Core.List.{List, []}
-use Prim.Native.Nat.{ℕ, ◌+◌, ◌-◌, ◌/◌, ◌%◌, ◌≤◌, ◌<◌}
+use mathlib.Core.List.{List, [], ◌∷◌, ◌++◌}
+use Prim.Native.Nat.{ℕ, zero, suc, ◌+◌, ◌-◌, ◌/◌, ◌%◌, ◌≤◌, ◌<◌}
 use native.Mathlib.Decide.{dec_lt}
 use native.Mathlib.Omega.{arith}
-use lib.ListN.{length, set}
+use lib.ListN.{length, set, length-append}
 use Rattle.lists.specs.Put.{put}
-use Rattle.lists.specs.PutLaws.{put_snoc, put_cons, put_none}
+use Rattle.lists.specs.PutLaws.{put_snoc, put_none}
 use Rattle.text.specs.Decimal.{decimal_text}
 use Rattle.text.proofs.DecimalLaws.{decimal_one, decimal_more, decimal_count_one, decimal_count_more}
 
@@ -64,33 +64,41 @@ module _ (v : ℕ) (h : v < 65536) where
       ]
 
 -- ---- a turn stores the last digit that is left
--- i digits of w are left to be stored from `at` on in e
-pub record Decimal (at v : ℕ) (e₀ : List ℕ) (w i : ℕ) (e : List ℕ) : Type 0 where
-  pub small : w < 65536
-  pub count : i ≡ length (decimal_text w)
-  pub few : i ≤ length (decimal_text v)
-  pub left : put at (decimal_text w) e ≡ put at (decimal_text v) e₀
+-- the lowest k digits of v, the highest first
+unfoldable pub decimal_digits : ℕ → ℕ → List ℕ
+decimal_digits zero v = []
+decimal_digits (suc k) v = decimal_digits k (v / 10) ++ ((48 + v % 10) ∷ [])
 
-pub decimal_start : {at v i : ℕ} {e : List ℕ} → v < 65536 → i ≡ length (decimal_text v) → Decimal at v e v i e
-decimal_start h n = record { small = h; count = n; few = omega (arith, n); left = refl }
+decimal_digits_length : (k v : ℕ) → length (decimal_digits k v) ≡ k
+unfolding decimal_digits
+decimal_digits_length zero v = refl
+decimal_digits_length (suc k) v = rw (length-append, decimal_digits_length k (v / 10)) (omega arith)
 
-module _ {at v : ℕ} {e₀ : List ℕ} {w i : ℕ} {e : List ℕ} (z : Decimal at v e₀ w i e) where
-  pub decimal_left : 10 ≤ w → 1 ≤ i
-  decimal_left h = let s = z.small in omega (arith, z.count, decimal_count_more w h (omega arith))
+-- where a number has as many, they are its text
+digits_are : (k v : ℕ) → v < 65536 → k ≡ length (decimal_text v) → decimal_digits k v ≡ decimal_text v
+unfolding decimal_digits
+digits_are zero v l e = absurd (elim (dec_lt v 10) [ yes h ↦ omega (arith, e, decimal_count_one v h) | no h ↦ omega (arith, e, decimal_count_more v (omega arith) (omega arith)) ])
+digits_are (suc k) v l e =
+    elim (dec_lt v 10) [
+      | yes h ↦
+          let z : k ≡ 0 = omega (arith, e, decimal_count_one v h) in
+          let m : v % 10 ≡ v = omega arith in
+          rw (z, m, decimal_one v h)
+      | no h ↦
+          let f : k ≡ length (decimal_text (v / 10)) = omega (arith, e, decimal_count_more v (omega arith) (omega arith)) in
+          rw (digits_are k (v / 10) (omega arith) f) (sym (decimal_more v (omega arith) (omega arith)))
+    ]
 
-  pub decimal_turn : {e' : List ℕ} → 10 ≤ w → e' ≡ set e (at + (i - 1)) (48 + w % 10) → Decimal at v e₀ (w / 10) (i - 1) e'
-  decimal_turn {e'} h p =
-      let s = z.small in
-      let k : i - 1 ≡ length (decimal_text (w / 10)) = omega (arith, z.count, decimal_count_more w h (omega arith)) in
-      let a : e' ≡ set e (at + length (decimal_text (w / 10))) (48 + w % 10) = p ∙ rw k in
-      let b = decimal_more w h (omega arith) in
-      record {
-        small = omega arith;
-        count = k;
-        few = omega (arith, z.few);
-        left = ap (put at (decimal_text (w / 10))) a ∙ sym (put_snoc at (decimal_text (w / 10)) (48 + w % 10) e) ∙ ap (λ (t : List ℕ). put at t e) (sym b) ∙ z.left;
-      }
+pub decimal_turn : (at i w : ℕ) (e e' : List ℕ) → 0 < i → e' ≡ set e (at + (i - 1)) (48 + w % 10)
+    → put at (decimal_digits (i - 1) (w / 10)) e' ≡ put at (decimal_digits i w) e
+unfolding decimal_digits
+decimal_turn at zero w e e' h q = absurd (omega arith)
+decimal_turn at (suc k) w e e' h q =
+    let i : suc k - 1 ≡ k = omega arith in
+    rw (i, put_snoc, decimal_digits_length k (w / 10)) (ap (put at (decimal_digits k (w / 10))) (q ∙ rw i))
 
-  pub decimal_last : {e' : List ℕ} → w < 10 → e' ≡ set e at (48 + w) → e' ≡ put at (decimal_text v) e₀
-  decimal_last {e'} h p =
-      p ∙ sym (put_cons at (48 + w) [] e ∙ put_none (at + 1) (set e at (48 + w))) ∙ ap (λ (t : List ℕ). put at t e) (sym (decimal_one w h)) ∙ z.left
+pub decimal_stored : (at i n v w : ℕ) (e e' : List ℕ) → i ≤ 0 → v < 65536 → n ≡ length (decimal_text v) → put at (decimal_digits i w) e' ≡ put at (decimal_digits n v) e
+    → e' ≡ put at (decimal_text v) e
+unfolding decimal_digits
+decimal_stored at zero n v w e e' h l p q = sym (put_none at e') ∙ q ∙ ap (λ (t : List ℕ). put at t e) (digits_are n v l p)
+decimal_stored at (suc k) n v w e e' h l p q = absurd (omega arith)

@@ -1,27 +1,49 @@
 -- What a store of a hex digit leaves, how many digits there are, how a number's text begins, and the room behind its beginning.
 -- The text of w is that of w / 16 and one digit, and the last of a text may be stored first.
-use mathlib.Core.Path.{◌≡◌, refl, ap, ◌∙◌}
+use mathlib.Core.Path.{◌≡◌, refl, sym, ap, ◌∙◌}
 use mathlib.Core.List.{List, [], ◌∷◌}
 use mathlib.Core.Bool.{Bool, true, false}
-use Prim.Native.Nat.{ℕ, ◌+◌, ◌-◌, ◌/◌, ◌%◌, ◌≤◌, ◌<◌}
+use Prim.Native.Nat.{ℕ, zero, suc, ◌+◌, ◌-◌, ◌/◌, ◌%◌, ◌≤◌, ◌<◌}
+use native.Mathlib.Decide.{dec_lt}
 use native.Mathlib.Omega.{arith}
 use lib.ListN.{length, set, length-take, length-drop}
 use borrow.Author.Tests.{lt-ltb, le-ltb}
 use borrow.Rule.Slice.PartMut.{mid_of}
 use Rattle.lists.specs.Put.{put}
-use Rattle.lists.specs.PutLaws.{put_snoc, put_cons, put_none}
-use Rattle.text.specs.Number.{digit, hex_text, sign, size_text, num_text}
-use Rattle.text.specs.NumberLaws.{hex_one, hex_more, hex_count_more}
+use Rattle.lists.specs.PutLaws.{put_snoc, put_none}
+use Rattle.text.specs.Number.{digit, hex_digits, hex_text, sign, size_text, num_text}
+use Rattle.text.specs.NumberLaws.{hex_one, hex_more, hex_count_more, hex_some, hex_digits_length}
 
-module _ (l : Bool) (w d : ℕ) (e e' : List ℕ) where
-  -- a turn stores the last digit that is left
-  pub turn : (i : ℕ) → 16 ≤ w → i ≡ length (hex_text l w) → d ≡ digit l (w % 16) → e' ≡ set e (i - 1) d → put 0 (hex_text l (w / 16)) e' ≡ put 0 (hex_text l w) e
-  turn i h n p q =
-      let at : i - 1 ≡ 0 + length (hex_text l (w / 16)) = omega (arith, hex_count_more l w h) in
-      rw (hex_more l w h, put_snoc, ← at, ← p, q)
+-- the lowest k digits, where a number has as many, are its text
+pub digits_are : (l : Bool) (k v : ℕ) → k ≡ length (hex_text l v) → hex_digits l k v ≡ hex_text l v
+unfolding hex_digits
+digits_are l zero v e = absurd (omega (arith, e, hex_some l v))
+digits_are l (suc k) v e =
+    elim (dec_lt v 16) [
+      | yes h ↦
+          let z : k ≡ 0 = omega (arith, e, ap length (hex_one l v h)) in
+          let m : v % 16 ≡ v = omega arith in
+          rw (z, m, hex_one l v h)
+      | no h ↦
+          let f : k ≡ length (hex_text l (v / 16)) = omega (arith, e, hex_count_more l v (omega arith)) in
+          rw (digits_are l k (v / 16) f) (sym (hex_more l v (omega arith)))
+    ]
 
-  pub last : w < 16 → d ≡ digit l w → e' ≡ set e 0 d → e' ≡ put 0 (hex_text l w) e
-  last h p q = rw (hex_one l w h, put_cons, put_none, ← p) q
+-- a turn stores the last of the i digits that are left
+pub digit_turn : (l : Bool) (i w d : ℕ) (e e' : List ℕ) → 0 < i → d ≡ digit l (w % 16) → e' ≡ set e (i - 1) d
+    → put 0 (hex_digits l (i - 1) (w / 16)) e' ≡ put 0 (hex_digits l i w) e
+unfolding hex_digits
+digit_turn l zero w d e e' h p q = absurd (omega arith)
+digit_turn l (suc k) w d e e' h p q =
+    let at : suc k - 1 ≡ k = omega arith in
+    let n : k ≡ 0 + length (hex_digits l k (w / 16)) = omega (arith, hex_digits_length l k (w / 16)) in
+    rw (at, put_snoc, ← n, ← p) (ap (put 0 (hex_digits l k (w / 16))) (q ∙ rw at))
+
+-- where none is left, all are stored
+pub digits_stored : (l : Bool) (i n v w : ℕ) (e e' : List ℕ) → i ≤ 0 → n ≡ length (hex_text l v) → put 0 (hex_digits l i w) e' ≡ put 0 (hex_digits l n v) e → e' ≡ put 0 (hex_text l v) e
+unfolding hex_digits
+digits_stored l zero n v w e e' h p q = sym (put_none 0 e') ∙ q ∙ ap (λ (t : List ℕ). put 0 t e) (digits_are l n v p)
+digits_stored l (suc k) n v w e e' h p q = absurd (omega arith)
 
 -- how many digits a number below 65536 has
 module _ (l : Bool) (v : ℕ) where

@@ -15,15 +15,14 @@ pub fn hex_byte(upper: bool, v: u64, j: usize) -> u8
     if n <= j {
         return 0;
     }
-    let mut i = n;
     let mut w = v;
-    while j + 1 < i {
-        i -= 1;
+    for _ in j + 1..n {
         w = w / 16;
     }
     digit_of(upper, w % 16)
 }
 
+#[tactic(auto, unfolding(crate::specs::Number::size_text))]
 fn size_byte(size: u64, j: usize) -> u8
     ensures { result ≡ get_or (size_text size) j 0 }
 {
@@ -42,6 +41,7 @@ fn size_byte(size: u64, j: usize) -> u8
     hex_byte(false, size, j - 2)
 }
 
+#[tactic(auto, unfolding(crate::specs::Number::num_text, crate::specs::Number::sign))]
 pub fn num_byte(negative: bool, size: u64, j: usize) -> u8
     ensures { result ≡ get_or (num_text negative size) j 0 }
 {
@@ -125,6 +125,7 @@ fn quote_byte(j: usize) -> u8
     if j == 0 { b'"' } else { 0 }
 }
 
+#[tactic(auto, unfolding(crate::specs::Literal::opening))]
 fn opening_byte(wide: bool, j: usize) -> u8
     ensures { result ≡ get_or (opening wide) j 0 }
 {
@@ -168,6 +169,7 @@ fn inside_byte(s: &[u8], j: usize) -> u8
     closing_byte(80 < s.len(), k)
 }
 
+#[tactic(auto, unfolding(crate::specs::Literal::literal_text))]
 pub fn literal_byte(wide: bool, s: &[u8], j: usize) -> u8
     ensures { result ≡ get_or (literal_text wide s.now) j 0 }
 {

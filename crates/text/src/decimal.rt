@@ -25,13 +25,10 @@ pub fn put_decimal(out: &mut [u8], at: usize, n: u16) -> usize
     ensures text { out.new ≡ put at (decimal_text n) out.old }
 {
     let size = decimal_length(n);
-    let mut i = size;
     let mut w = n;
-    while w >= 10 {
-        i -= 1;
+    for i in (0..size).rev() {
         store(out, at + i, b'0' + (w % 10) as u8);
         w = w / 10;
     }
-    store(out, at, b'0' + w as u8);
     at + size
 }

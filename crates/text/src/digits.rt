@@ -12,20 +12,17 @@ fn write_hex(out: &mut [u8], upper: bool, v: u64) -> usize
     ensures count { (result ≡ length (hex_text upper v)) × (result ≤ 16) }
     ensures text { out.new ≡ put 0 (hex_text upper v) out.old }
 {
-    let mut i = hex_count(v);
+    let n = hex_count(v);
     let mut w = v;
-    let mut n: usize = 0;
-    while w >= 16 {
-        i -= 1;
+    for i in (0..n).rev() {
         out[i] = digit_of(upper, w % 16);
-        n += 1;
         w = w / 16;
     }
-    out[0] = digit_of(upper, w);
-    n + 1
+    n
 }
 
 // Below 10 one character, else 0x and hex behind it.
+#[tactic(auto, unfolding(crate::specs::Number::size_text))]
 fn write_size(out: &mut [u8], size: u64) -> usize
     requires { length (size_text size) ≤ length out.old }
     ensures count { (result ≡ length (size_text size)) × (result ≤ 18) }
@@ -45,6 +42,7 @@ fn write_size(out: &mut [u8], size: u64) -> usize
 }
 
 // A number by its sign and size.
+#[tactic(auto, unfolding(crate::specs::Number::num_text, crate::specs::Number::sign))]
 pub fn write_num(out: &mut [u8], negative: bool, size: u64) -> usize
     requires { length (num_text negative size) ≤ length out.old }
     ensures count { (result ≡ length (num_text negative size)) × (result ≤ 19) }

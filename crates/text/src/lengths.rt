@@ -5,6 +5,7 @@ ghost use Rattle.text.specs.Literal.{code_text, letter_or, escape, escapes, open
 
 use crate::number::hex_count;
 
+#[tactic(auto, unfolding(crate::specs::Number::size_text))]
 fn size_length(size: u64) -> usize
     ensures { (result ≡ length (size_text size)) × (result ≤ 18) }
 {
@@ -14,6 +15,7 @@ fn size_length(size: u64) -> usize
     2 + hex_count(size)
 }
 
+#[tactic(auto, unfolding(crate::specs::Number::num_text, crate::specs::Number::sign))]
 pub fn num_length(negative: bool, size: u64) -> usize
     ensures { (result ≡ length (num_text negative size)) × (result ≤ 19) }
 {
@@ -47,18 +49,21 @@ fn escapes_length(s: &[u8]) -> usize
     sum
 }
 
+#[tactic(auto, unfolding(crate::specs::Literal::opening))]
 pub fn opening_length(wide: bool) -> usize
     ensures { (result ≡ length (opening wide)) × (result ≤ 2) }
 {
     if wide { 2 } else { 1 }
 }
 
+#[tactic(auto, unfolding(crate::specs::Literal::closing))]
 fn closing_length(longer: bool) -> usize
     ensures { (result ≡ length (closing longer)) × (result ≤ 4) }
 {
     if longer { 4 } else { 1 }
 }
 
+#[tactic(auto, unfolding(crate::specs::Literal::literal_text))]
 pub fn literal_length(wide: bool, s: &[u8]) -> usize
     ensures { (result ≡ length (literal_text wide s.now)) × (result ≤ 486) }
 {

@@ -17,5 +17,10 @@ fn main(rt: HostRuntime) {
     );
     let mut out = [0u8; 65536];
     let m = put_by_columns(part(&rec, 0, n), &mut out);
-    let _ = print_answer(part(&out, 0, m), b"to_columns", &rt, &rt.stderr());
+    let _ = print_answer(
+        part(&out, 0, m),
+        b"to_columns",
+        &mut rt.stdout(),
+        &mut rt.stderr(),
+    );
 }

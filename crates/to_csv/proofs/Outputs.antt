@@ -11,33 +11,30 @@ use borrow.Author.Tests.{le-leb}
 use Rattle.lists.specs.Choice.{pick}
 use Rattle.text.specs.Decimal.{decimal_of, decimal_text}
 use Rattle.lists.proofs.Tabs.{tab_length}
-use Rattle.rows.specs.Lists.{Lists, number_of}
+use Rattle.rows.specs.Lists.{Lists}
 use Rattle.rows.specs.Rows.{Row, row_at, rows_in, row_lists, holds_rows}
 use Rattle.rows.specs.declared.answer.Sizes.{Sizes}
-use Rattle.rows.specs.declared.answer.Answer.{Answer}
-use Rattle.rows.specs.declared.answer.Answer.TheVariants.{Listed, No}
+use Rattle.std.specs.declared.result.Result.{Result}
+use Rattle.std.specs.Prelude.{Ok, Err}
+use Rattle.lists.specs.Question.{number, number_of, Answers}
+use Rattle.lists.specs.declared.question.Question.{Question}
+use Rattle.lists.proofs.Answered.{value_is, question_some, number_is}
 use Rattle.rows.proofs.Held.{Held, held}
 use Rattle.rows.proofs.Listed.{lines_size}
 use Rattle.rows.proofs.Back.{begins_alone, rows_back}
 use Rattle.csv_rows.specs.Format.{tokens_text, address_text, row_text, rows_text}
-use Rattle.csv_rows.specs.Called.{written_number, written_size, written_for, file, write_no, Writes}
-use Rattle.csv_rows.specs.declared.writing.Written.{Written}
-use Rattle.csv_rows.specs.declared.writing.Written.TheVariants as case
+use Rattle.csv_rows.specs.Called.{file, write_no, Writes}
 use Rattle.csv_rows.proofs.Heads.{address_size}
 use Rattle.csv_rows.proofs.Fit.{rows_fit, writable_good}
 use Rattle.record.specs.Header.{header_of}
 use Rattle.pseudo.specs.Listed.{record_lists}
 use Rattle.pseudo.specs.Called.{Called}
 use Rattle.pseudo.specs.Promise.{Promise}
-use Rattle.page.specs.Page.{numbered, refusal}
+use Rattle.page.specs.Page.{numbered, refusal, stored_output}
 use Rattle.program.specs.Output.{whole_lists, output_text}
 use Rattle.program.proofs.Lent.{lent, no_output, refused_number, listed_output, cut_listing}
 use Rattle.program.proofs.Prints.{prints}
 use Rattle.to_csv.specs.Output.{rows_of, file_of, PrintsRows}
-
-abbrev is_file : Written → Bool
-is_file (case.File n) = true
-is_file (case.No n) = false
 
 -- ---- no file is `no 14`
 abbrev head : List ℕ → ℕ
@@ -65,7 +62,7 @@ no_file [] e = let n : ℕ = 0 in let m : ℕ = 6 in let p : n ≡ m = ap length
 no_file (r ∷ rs) e = no_row r.addressed r rs refl e
 
 -- ---- what is printed
-module _ (s : List ℕ) (to : ℕ) (whole : to ≡ (header_of s).blocks) (a : Lists) (g : Answer) {looks : ℕ} (promise : Promise s 0 to lent a g looks) where
+module _ (s : List ℕ) (to : ℕ) (whole : to ≡ (header_of s).blocks) (a : Lists) (g : Result Sizes Question) {looks : ℕ} (promise : Promise s 0 to lent a g looks) where
   abbrev called : Called s 0 to lent a g
   called = promise.called
 
@@ -73,7 +70,7 @@ module _ (s : List ℕ) (to : ℕ) (whole : to ≡ (header_of s).blocks) (a : Li
   new = record_lists (header_of s) s 0 to
 
   -- a number
-  pub number_prints : (j : ℕ) → g ≡ No j → (out : List ℕ) → out ≡ refusal j → length out ≤ 10 → PrintsRows s out
+  pub number_prints : (q : Question) → g ≡ Err q → (out : List ℕ) → out ≡ refusal (number q) → length out ≤ 10 → PrintsRows s out
   number_prints j h out e few = record {
     prints = prints file_of s out (λ o. no_file (rows_of (whole_lists s))) (e ∙ sym (no_output s to whole a g called file_of j h));
     rows = λ o. absurd (refused_number s to whole a g called j h o);
@@ -81,14 +78,14 @@ module _ (s : List ℕ) (to : ℕ) (whole : to ≡ (header_of s).blocks) (a : Li
     short = omega arith;
   }
 
-  module _ (z : Sizes) (h : g ≡ Listed z) (texts : length a.text ≡ 65536) (tokens : length a.ends ≡ 16384) (lines : length a.addresses ≡ 900) where
+  module _ (z : Sizes) (h : g ≡ Ok z) (texts : length a.text ≡ 65536) (tokens : length a.ends ≡ 16384) (lines : length a.addresses ≡ 900) where
     holds : holds_rows a z.text z.tokens z.lines ≡ true
     holds = rw h at (promise.rows (ap number_of h))
 
     is_held : Held a z.text z.tokens z.lines
     is_held = held a z.text z.tokens z.lines holds
 
-    module _ (out out' : List ℕ) (w : Written) (wr : Writes a z out out' w) (room : 262144 ≤ length out) where
+    module _ (out out' : List ℕ) (w : Result ℕ Question) (wr : Writes a z out out' w) (room : 262144 ≤ length out) where
       short_file : length (file a z) ≤ 238192
       short_file = omega (arith, wr.short holds, is_held.room.text, is_held.room.ends, is_held.room.addresses)
 
@@ -96,15 +93,15 @@ module _ (s : List ℕ) (to : ℕ) (whole : to ≡ (header_of s).blocks) (a : Li
       unfolding write_no
       no_number = rw (holds, le-leb (length (file a z)) (length out) (omega (arith, short_file)))
 
-      is_file_lem : w ≡ case.File (length (file a z))
-      is_file_lem = wr.answer ∙ ap (written_for (length (file a z))) no_number
+      written : Answers 0 (length (file a z)) w
+      written = rw no_number at wr.answer
 
       -- the file is never refused
-      pub never_refused : (k : ℕ) → w ≡ case.No k → ⊥
-      never_refused k e = true≢false (ap is_file (sym is_file_lem ∙ e))
+      never_refused : (q : Question) → w ≡ Err q → ⊥
+      never_refused q e = omega (arith, question_some 0 (length (file a z)) w q written e)
 
-      zero : written_number w ≡ 0
-      zero = ap written_number is_file_lem
+      zero : number_of w ≡ 0
+      zero = number_is 0 (length (file a z)) w written
 
       rows_written : row_lists (rows_in a z.lines) ≡ new
       rows_written = wr.same zero ∙ cut_listing s to whole a g called z h
@@ -124,9 +121,9 @@ module _ (s : List ℕ) (to : ℕ) (whole : to ≡ (header_of s).blocks) (a : Li
       taken = rw (wr.bytes, no_number) (take-append_seam (file a z) (drop (length (file a z)) out))
 
       -- the file
-      pub file_prints : (n : ℕ) → w ≡ case.File n → PrintsRows s (take n out')
+      file_prints : (n : ℕ) → w ≡ Ok n → PrintsRows s (take n out')
       file_prints n e =
-          let size : n ≡ length (file a z) = ap written_size (sym e ∙ is_file_lem) in
+          let size : n ≡ length (file a z) = (value_is 0 (length (file a z)) w n written e).1 in
           let is : take n out' ≡ file a z = ap (λ (k : ℕ). take k out') size ∙ taken in
           let of_new : rows_of new ≡ rows_of (whole_lists s) = ap (λ (k : ℕ). rows_of (record_lists (header_of s) s 0 k)) whole in
           record {
@@ -135,3 +132,11 @@ module _ (s : List ℕ) (to : ℕ) (whole : to ≡ (header_of s).blocks) (a : Li
             same = λ o. rw (← of_new, ← rows_are) (rows_written ∙ ap (record_lists (header_of s) s 0) whole);
             short = omega (arith, ap length is, short_file);
           }
+
+      -- what is printed of what was written
+      stored_as : (r : Result ℕ Question) → w ≡ r → PrintsRows s (stored_output r out')
+      stored_as (Ok n) e = file_prints n e
+      stored_as (Err q) e = absurd (never_refused q e)
+
+      pub stored_prints : (o : List ℕ) → o ≡ stored_output w out' → PrintsRows s o
+      stored_prints o e = rw e (stored_as w refl)

@@ -4,14 +4,14 @@
 ghost use Rattle.std.specs.Prelude.{◌≤◌, length, take};
 ghost use Rattle.to_csv.specs.Output.{PrintsRows};
 
-use csv_rows::writing::{Written, write_rows};
+use csv_rows::writing::write_rows;
 use lists::parts::part;
-use page::number::put_refusal;
+use page::number::{put_refusal, put_stored};
 use pseudo::call::list;
 use record::header::read_header;
-use record::layout::size;
-use rows::answer::Answer;
+use rows::listing::Listing;
 use stdio::input::{bytes_read, read_input};
+use stdio::output::print_answer;
 
 // What the program prints of a record; answers how many bytes that is. 65,536 bytes of text, each of which may be a quote, 16,384 tokens and
 // 900 rows give a file of fewer than 262,144 bytes.
@@ -19,7 +19,7 @@ fn answer(rec: &[u8], out: &mut [u8]) -> usize
     requires { 262144 ≤ length out.old }
     ensures { PrintsRows rec.now (take result out.new) }
 {
-    let to = size(read_header(rec).blocks);
+    let to = usize::from(read_header(rec).blocks);
     let mut text = [0u8; 65536];
     let mut ends = [0u32; 16384];
     let mut kinds = [0u8; 16384];
@@ -39,15 +39,21 @@ fn answer(rec: &[u8], out: &mut [u8]) -> usize
         &mut places,
         &mut lines,
     );
-    let answer = listed.answer;
-    match answer {
-        Answer::Listed(z) => match write_rows(
-            &text, &ends, &kinds, &addresses, &marks, &places, &lines, z, out,
-        ) {
-            Written::File(n) => n,
-            Written::No(n) => put_refusal(out, n),
-        },
-        Answer::No(n) => put_refusal(out, n),
+    match listed.answer {
+        Ok(sizes) => {
+            let all = Listing {
+                text: &text,
+                ends: &ends,
+                kinds: &kinds,
+                addresses: &addresses,
+                marks: &marks,
+                places: &places,
+                lines: &lines,
+            };
+            let written = write_rows(&all, sizes, out);
+            put_stored(out, written)
+        }
+        Err(q) => put_refusal(out, q),
     }
 }
 
@@ -62,9 +68,5 @@ fn main(rt: HostRuntime) {
     );
     let mut out = [0u8; 262144];
     let m = answer(part(&rec, 0, n), &mut out);
-    if rt.write_all(part(&out, 0, m)).is_err() {
-        let _ = rt
-            .stderr()
-            .write_all(b"to_csv: standard output cannot be written\n");
-    }
+    let _ = print_answer(part(&out, 0, m), b"to_csv", &mut rt.stdout(), &mut rt.stderr());
 }

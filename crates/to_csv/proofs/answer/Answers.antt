@@ -6,29 +6,21 @@ use native.Mathlib.Omega.{arith}
 use lib.ListN.{length, length-replicate}
 use Rattle.record.specs.declared.header.Header.{Header}
 use Rattle.page.proofs.Pieces.{stands_whole}
-use Rattle.to_csv.proofs.Outputs.{number_prints, never_refused, file_prints}
+use Rattle.to_csv.proofs.Outputs.{number_prints, stored_prints}
 use Rattle.to_csv.proofs.answer.Goals as goal
 
-pub returns-in-File : goal.returns-in-File
-returns-in-File c =
+pub returns-in-Ok : goal.returns-in-Ok
+returns-in-Ok c =
     let s = c.args.rec.now in
-    let whole = c.size-to.ensures.0 ∙ ap (λ (h : Header). h.blocks) c.read_header.ensures in
+    let whole = c.from-to.ensures ∙ ap (λ (h : Header). h.blocks) c.read_header.ensures in
     let kept = c.list-listed.auto in
     let l = length-replicate {A = ℕ} in
-    file_prints s _ whole _ _ c.list-listed.ensures _ c.in-Listed.is (kept.text ∙ l 65536 0) (kept.ends ∙ l 16384 0) (kept.addresses ∙ l 900 0) _ _ _ c.write_rows.ensures c.requires _ c.in-File.is
+    stored_prints s _ whole _ _ c.list-listed.ensures _ c.in-Ok.is (kept.text ∙ l 65536 0) (kept.ends ∙ l 16384 0) (kept.addresses ∙ l 900 0) _ _ _ c.write_rows-written.ensures c.requires _ c.put_stored.ensures
 
-pub returns-in-No-write_rows : goal.returns-in-No-write_rows
-returns-in-No-write_rows c =
+pub returns-in-Err : goal.returns-in-Err
+returns-in-Err c =
     let s = c.args.rec.now in
-    let whole = c.size-to.ensures.0 ∙ ap (λ (h : Header). h.blocks) c.read_header.ensures in
-    let kept = c.list-listed.auto in
-    let l = length-replicate {A = ℕ} in
-    absurd (never_refused s _ whole _ _ c.list-listed.ensures _ c.in-Listed.is (kept.text ∙ l 65536 0) (kept.ends ∙ l 16384 0) (kept.addresses ∙ l 900 0) _ _ _ c.write_rows.ensures c.requires _ c.in-No-write_rows.is)
-
-pub returns-in-No : goal.returns-in-No
-returns-in-No c =
-    let s = c.args.rec.now in
-    let whole = c.size-to.ensures.0 ∙ ap (λ (h : Header). h.blocks) c.read_header.ensures in
-    let r = c.put_refusal-in-No.ensures in
+    let whole = c.from-to.ensures ∙ ap (λ (h : Header). h.blocks) c.read_header.ensures in
+    let r = c.put_refusal.ensures in
     let is = stands_whole _ c.args.out.now _ _ r.end.0 r.text (omega (arith, r.end.1, c.requires)) in
-    number_prints s _ whole _ _ c.list-listed.ensures _ c.in-No.is _ is (omega (arith, ap length is, r.end))
+    number_prints s _ whole _ _ c.list-listed.ensures _ c.in-Err.is _ is (omega (arith, ap length is, r.end))

@@ -33,24 +33,24 @@ module _ (blocks edges starts targets : List ℕ) (B i to : ℕ) where
 
 pub returns-then-t-to : goal.returns-then-t-to
 returns-then-t-to c = let a = c.args in
-    let r = opened a.blocks.now a.edges.now a.starts.now a.targets.now a.count a.i.0 a.to.0 c.branch_to-t.result.0 c.branch_to-t.ensures
+    let r = opened a.g.now.blocks.now a.g.now.edges.now a.g.now.starts.now a.g.now.targets.now a.g.now.count a.i.0 a.to.0 c.branch_to-t.result.0 c.branch_to-t.ensures
     (simp (sym c.ending_in.ensures, eq-eqb _ _ c.if-ending_in-eq2.true, lt-ltb _ _ c.if-i-t.true, le-leb _ _ c.if-t-to.true)) _ _ c.is_region.ensures.found c.is_region.ensures.looks.0 in
     record { found = r.0; looks = (r.1, search rules) }
 
 pub returns-else-t-to : goal.returns-else-t-to
 returns-else-t-to c = let a = c.args in
-    let r = shut a.blocks.now a.edges.now a.starts.now a.targets.now a.count a.i.0 a.to.0 c.branch_to-t.result.0 c.branch_to-t.ensures
+    let r = shut a.g.now.blocks.now a.g.now.edges.now a.g.now.starts.now a.g.now.targets.now a.g.now.count a.i.0 a.to.0 c.branch_to-t.result.0 c.branch_to-t.ensures
     (simp (sym c.ending_in.ensures, eq-eqb _ _ c.if-ending_in-eq2.true, lt-ltb _ _ c.if-i-t.true, lt-leb _ _ c.if-t-to.false)) in
     record { found = r.0; looks = (r.1, search rules) }
 
 pub returns-else-i-t : goal.returns-else-i-t
 returns-else-i-t c = let a = c.args in
-    let r = shut a.blocks.now a.edges.now a.starts.now a.targets.now a.count a.i.0 a.to.0 c.branch_to-t.result.0 c.branch_to-t.ensures
+    let r = shut a.g.now.blocks.now a.g.now.edges.now a.g.now.starts.now a.g.now.targets.now a.g.now.count a.i.0 a.to.0 c.branch_to-t.result.0 c.branch_to-t.ensures
     (simp (sym c.ending_in.ensures, eq-eqb _ _ c.if-ending_in-eq2.true, le-ltb _ _ c.if-i-t.false)) in
     record { found = r.0; looks = (r.1, search rules) }
 
 pub returns-else-ending_in-eq2 : goal.returns-else-ending_in-eq2
 returns-else-ending_in-eq2 c = let a = c.args in
-    let r = shut a.blocks.now a.edges.now a.starts.now a.targets.now a.count a.i.0 a.to.0 c.branch_to-t.result.0 c.branch_to-t.ensures
+    let r = shut a.g.now.blocks.now a.g.now.edges.now a.g.now.starts.now a.g.now.targets.now a.g.now.count a.i.0 a.to.0 c.branch_to-t.result.0 c.branch_to-t.ensures
     (simp (sym c.ending_in.ensures, ne_eqb _ _ c.if-ending_in-eq2.false)) in
     record { found = r.0; looks = (r.1, search rules) }

@@ -9,6 +9,7 @@ use Rattle.cfg.specs.Looks.{block_looks}
 use Rattle.cfg.specs.Reads.{Reads}
 use Rattle.cfg.specs.declared.edges.Looked.{Looked}
 use Rattle.cfg.proofs.BlocksRead.{block_reads}
+use borrow.Author.Rules.{rules}
 use Rattle.cfg.proofs.tests.closes_loop.Goals as goal
 
 closes : (blocks edges : List ℕ) (i j : ℕ) {e n : ℕ} {r : Looked} → Reads (true_edge_to edges i) e n r → e ≡ first_edge_in blocks j → n ≡ edges_in blocks j
@@ -20,10 +21,10 @@ closes blocks edges i j h f g b t =
 
 pub returns-then-read : goal.returns-then-read
 returns-then-read c = let a = c.args in
-    let f = closes a.blocks.now a.edges.now a.i.0 a.j.0 c.read_edges-read.ensures c.requires.0 c.requires.1 true c.if-read.true in
-    record { found = c.has_condition.ensures ∙ f.0; looks = (f.1, c.read_edges-read.ensures.few) }
+    let f = closes a.blocks.now a.edges.now a.i.0 a.j.0 (c.read_until-read.ensures.reads (true_edge_to a.edges.now a.i.0) (λ k b l q. search rules)) c.requires.0 c.requires.1 true c.if-read.true in
+    record { found = c.has_condition.ensures ∙ f.0; looks = (f.1, c.read_until-read.ensures.few) }
 
 pub returns : goal.returns
 returns c = let a = c.args in
-    let f = closes a.blocks.now a.edges.now a.i.0 a.j.0 c.read_edges-read.ensures c.requires.0 c.requires.1 false c.if-read.false in
-    record { found = c.if-read.false ∙ f.0; looks = (f.1, c.read_edges-read.ensures.few) }
+    let f = closes a.blocks.now a.edges.now a.i.0 a.j.0 (c.read_until-read.ensures.reads (true_edge_to a.edges.now a.i.0) (λ k b l q. search rules)) c.requires.0 c.requires.1 false c.if-read.false in
+    record { found = c.if-read.false ∙ f.0; looks = (f.1, c.read_until-read.ensures.few) }

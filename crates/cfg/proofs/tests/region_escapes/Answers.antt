@@ -13,6 +13,7 @@ use Rattle.cfg.specs.Looks.{escape_looks}
 use Rattle.cfg.specs.Reads.{Reads}
 use Rattle.cfg.specs.declared.edges.Looked.{Looked}
 use Rattle.cfg.proofs.BlocksRead.{before_le, region_reads}
+use borrow.Author.Rules.{rules}
 use Rattle.cfg.proofs.tests.region_escapes.Goals as goal
 
 lent : (starts targets : List ℕ) (from to f x : ℕ) {e n : ℕ} {r : Looked} → f ≡ start_at starts from → x ≡ start_at starts to
@@ -23,14 +24,14 @@ pub overflow_sub-edges_before : goal.overflow_sub-edges_before
 overflow_sub-edges_before c =
     omega (arith, c.edges_before.ensures.0, c.edges_before-e.ensures.0, before_le c.args.blocks.now c.args.from.0 c.args.to.0 c.requires.from_le_to.0)
 
-pub read_targets-requires : goal.read_targets-requires
-read_targets-requires c =
-    omega (arith, c.edges_before.ensures.0, c.edges_before-e.ensures.0, c.requires.from_le_to.1, before_le c.args.blocks.now c.args.from.0 c.args.to.0 c.requires.from_le_to.0)
+pub read_until-requires-clause-can : goal.read_until-requires-clause-can
+read_until-requires-clause-can c = λ k l. let b = before_le c.args.blocks.now c.args.from.0 c.args.to.0 c.requires.from_le_to.0 in
+    omega (arith, l, c.edges_before.ensures.0, c.edges_before-e.ensures.0, c.requires.from_le_to.1, b)
 
 pub returns : goal.returns
 unfolding escapes escape_looks
 returns c = let a = c.args in
-    let l = c.read_targets.ensures in
+    let l = c.read_until.ensures.reads (λ k. ltb (u64_at a.targets.now (8 * k)) c.start_at-first.result.0 && not (eqb (u64_at a.targets.now (8 * k)) c.start_at-excepted.result.0)) (λ k b m q. search rules) in
     let r = lent a.starts.now a.targets.now a.from.0 a.to.0 _ _ c.start_at-first.ensures c.start_at-excepted.ensures l in
     let e = region_reads a.blocks.now (leaves a.starts.now a.targets.now a.from.0 a.to.0) a.to.0 a.from.0 a.to.0 c.requires.turns c.requires.from_le_to.0 (omega arith) r c.edges_before-e.ensures.0 (ap (λ (x : ℕ). x - c.edges_before-e.result) c.edges_before.ensures.0) in
     record { found = ap (λ (q : Looked). q.found) e; looks = (ap (λ (q : Looked). q.looks) e, omega (arith, l.few, c.edges_before.ensures.1)) }

@@ -2,7 +2,7 @@
 -- The invariant: so far none breaks it, or `ok` is false.
 use mathlib.Core.Path.{◌≡◌}
 use mathlib.Core.Bool.{not}
-use Prim.Native.Nat.{◌-◌, ◌≤◌}
+use Prim.Native.Nat.{◌≤◌}
 use Rattle.lists.specs.Choice.{all_below}
 use Rattle.checker.specs.Rows.{last_marked}
 use Rattle.checker.proofs.blocks.lasts_unmarked.Given as goal

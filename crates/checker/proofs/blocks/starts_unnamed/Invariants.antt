@@ -1,7 +1,7 @@
 -- Whether no atlas entry stands at a block's start: `starts_unnamed` meets its contract.
 -- The invariant: so far none breaks it, or `ok` is false.
 use mathlib.Core.Path.{◌≡◌}
-use Prim.Native.Nat.{◌-◌, ◌≤◌}
+use Prim.Native.Nat.{◌≤◌}
 use Rattle.lists.specs.Choice.{all_below}
 use Rattle.record.specs.Blocks.{start_at}
 use Rattle.record.specs.Layout.{starts_of}

@@ -7,9 +7,8 @@ use Rattle.checker.proofs.check.check_accepted.Goals as goal
 pub block_rows-requires : goal.block_rows-requires
 block_rows-requires c = counted c.args.h c.args.rec.now c.requires
 
-pub first_broken-broken-requires : goal.first_broken-broken-requires
-first_broken-broken-requires c = record { accepted = c.requires; blocks_value = rows_are c.args.h c.args.rec.now c.requires _ _ _ c.block_rows.ensures c.part-blocks.ensures.0 c.size.ensures.0 }
+pub check_assumptions-requires : goal.check_assumptions-requires
+check_assumptions-requires c = record { accepted = c.requires; blocks_value = rows_are c.args.h c.args.rec.now c.requires _ _ _ c.block_rows.ensures c.part.ensures.0 c.size.ensures.0 }
 
-pub returns-then-broken-eq0 : goal.returns-then-broken-eq0
-returns-then-broken-eq0 c =
-    checks_follows c.args.h c.args.rec.now c.requires _ c.first_broken-broken.ensures c.if-broken-eq0.true
+pub returns : goal.returns
+returns c = checks_follows c.args.h c.args.rec.now c.requires c.in_ok-check_assumptions.ensures

@@ -6,7 +6,7 @@ use Rattle.checker.proofs.Planned.{planned, lines_are}
 use Rattle.checker.proofs.check.gotos_labelled.Goals as goal
 
 pub plan_record-planned-requires : goal.plan_record-planned-requires
-plan_record-planned-requires c = record { isa = c.isa_of.ensures; asked = planned c.args.h c.args.rec.now c.requires.accepted; rows = c.requires.blocks_value }
+plan_record-planned-requires c = record { asked = planned c.args.h c.args.rec.now c.requires.accepted; rows = c.requires.blocks_value }
 
 pub returns : goal.returns
 unfolding gotos_labelled

@@ -1,7 +1,7 @@
 -- How many of n edges from e on are of the kind: `count_of` meets its contract.
 -- The invariant: the sum so far.
 use mathlib.Core.Path.{◌≡◌}
-use Prim.Native.Nat.{◌+◌, ◌-◌, ◌≤◌}
+use Prim.Native.Nat.{◌+◌, ◌≤◌}
 use Rattle.lists.specs.Choice.{pick, sum_below}
 use Rattle.record.specs.Blocks.{edge_kind_at}
 use Rattle.checker.specs.Edges.{of_kind}

@@ -2,7 +2,7 @@
 -- The invariant: so far none breaks it, or `ok` is false.
 use mathlib.Core.Path.{◌≡◌}
 use mathlib.Core.Bool.{not, ◌&&◌}
-use Prim.Native.Nat.{◌-◌, ◌≤◌}
+use Prim.Native.Nat.{◌≤◌}
 use lib.Dec.{eqb}
 use Rattle.lists.specs.Choice.{all_below}
 use Rattle.record.specs.Body.{body_at, mnemonic_of, sets_by_condition, operand_kind}

@@ -2,7 +2,7 @@
 -- The invariant: what is left of the lines tells it.
 use mathlib.Core.Path.{◌≡◌}
 use mathlib.Core.List.{map}
-use Prim.Native.Nat.{◌-◌, ◌≤◌}
+use Prim.Native.Nat.{◌≤◌}
 use lib.ListN.{length, drop}
 use Rattle.line.specs.Lines.{line_in}
 use Rattle.route.specs.Assumed.{label_stands}

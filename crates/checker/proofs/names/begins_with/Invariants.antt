@@ -1,7 +1,7 @@
 -- Whether a text begins with another: `begins_with` meets its contract.
 -- The invariant: what is left of both tells it.
 use mathlib.Core.Path.{◌≡◌}
-use Prim.Native.Nat.{◌-◌, ◌≤◌}
+use Prim.Native.Nat.{◌≤◌}
 use lib.ListN.{length, drop}
 use Rattle.checker.specs.Broken.{begins}
 use Rattle.checker.proofs.names.begins_with.Given as goal

@@ -35,14 +35,14 @@ module _ (h : Header) (s b d st t : List ℕ) (a : b ≡ block_rows h s) (c : d 
   unfolding record_looks
   looks-are r p = (p.0 ∙ rw (a, c, f, g), rw (a, all_edges h s q.counted) at p.1)
 
-pub plan-requires : goal.plan-requires
-plan-requires c = let h = c.args.h in
+pub invariant_of-g : goal.invariant_of-g
+invariant_of-g c = let h = c.args.h in
     let s = c.args.rec.now in
     let d =
     filled (edge_rows h s) _ _ _ (2 * c.from.result) (2 * h.edges) (edges_length h s) c.requires.room (omega (arith, c.from.ensures))
-    c.edge_rows.ensures c.part-e.ensures.0 in
+    c.edge_rows.ensures c.part.ensures.0 in
     let t = array _ _ _ _ c.targets_at.ensures.0 c.from-4.ensures.0 in
-    let held = plans h s _ _ _ _ c.requires.rows d c.from-3.ensures.0 t c.args.from c.args.to c.requires.asked in record { to_le_count = held.0; in_turn = held.1.0; count_in_bounds = held.1.1 }
+    let held = plans h s _ _ _ _ c.requires.rows d c.from-3.ensures.0 t c.args.from c.args.to c.requires.asked in record { in_turn = held.1.0; in_bounds = held.1.1; count_fits = omega arith; blocks_fit = λ k. omega (arith, c.type_inv.blocks k) }
 
 pub returns : goal.returns
 unfolding record_plan
@@ -50,10 +50,10 @@ returns c = let h = c.args.h in
     let s = c.args.rec.now in
     let d =
     filled (edge_rows h s) _ _ _ (2 * c.from.result) (2 * h.edges) (edges_length h s) c.requires.room (omega (arith, c.from.ensures))
-    c.edge_rows.ensures c.part-e.ensures.0 in
+    c.edge_rows.ensures c.part.ensures.0 in
     let t = array _ _ _ _ c.targets_at.ensures.0 c.from-4.ensures.0 in
     let small = limits_small h c.requires.asked.limits in
     let v =
     filled (shown_rows h s) _ _ _ _ h.instructions (shown_length h s) (omega (arith, small.instructions)) c.from-2.ensures
-    c.shown_rows.ensures c.part-s.ensures.0 in
+    c.shown_rows.ensures c.part-2.ensures.0 in
     let st = c.from-3.ensures.0 in record { lines = same _ _ _ _ _ _ _ _ _ _ _ _ _ _ _ _ _ c.plan.ensures.lines c.requires.rows d v st t; looks = looks-are h s _ _ _ _ c.requires.rows d st t c.args.from c.args.to c.requires.asked _ c.plan.ensures.looks }

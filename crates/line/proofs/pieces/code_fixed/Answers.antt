@@ -1,26 +1,27 @@
 -- `pieces::code_fixed` meets its contract.
 -- By the number of the piece.
-use native.Mathlib.Omega.{arith}
+use Rattle.std.proofs.Common.{◌≤◌, arith}
 use Rattle.operand.proofs.Tokens.{as_tokens}
 use Rattle.line.proofs.PieceTokens.{is_first_fixed, is_second_fixed, is_third_fixed, is_past}
 use Rattle.line.proofs.pieces.code_fixed.Goals as goal
 
-pub returns-then-piece-eq147 : goal.returns-then-piece-eq147
-returns-then-piece-eq147 c s site =
+pub returns-in-147 : goal.returns-in-147
+returns-in-147 c s site =
     let a = c.args in
-    as_tokens (is_first_fixed a.h s site a.piece c.if-piece-eq147.true) (c.code_register.ensures s)
+    as_tokens (is_first_fixed a.h s site a.piece c.in-147.is) (c.code_register.ensures s)
 
-pub returns-then-piece-eq148 : goal.returns-then-piece-eq148
-returns-then-piece-eq148 c s site =
+pub returns-in-148 : goal.returns-in-148
+returns-in-148 c s site =
     let a = c.args in
-    as_tokens (is_second_fixed a.h s site a.piece c.if-piece-eq148.true) (c.code_register-then-piece-eq148.ensures s)
+    as_tokens (is_second_fixed a.h s site a.piece c.in-148.is) (c.code_register-in-148.ensures s)
 
-pub returns-then-piece-eq149 : goal.returns-then-piece-eq149
-returns-then-piece-eq149 c s site =
+pub returns-in-149 : goal.returns-in-149
+returns-in-149 c s site =
     let a = c.args in
-    as_tokens (is_third_fixed a.h s site a.piece c.if-piece-eq149.true) (c.code_register-then-piece-eq149.ensures s)
+    as_tokens (is_third_fixed a.h s site a.piece c.in-149.is) (c.code_register-in-149.ensures s)
 
-pub returns : goal.returns
-returns c s site =
+pub returns-in_default : goal.returns-in_default
+returns-in_default c s site =
     let a = c.args in
-    as_tokens (is_past a.h s site a.piece (omega (arith, c.requires.le_piece, c.if-piece-eq147.false, c.if-piece-eq148.false, c.if-piece-eq149.false))) (c.code_num.ensures _ s)
+    let h : 150 ≤ a.piece = grind arith in
+    as_tokens (is_past a.h s site a.piece h) (c.code_num.ensures _ s)

@@ -3,7 +3,7 @@
 use lib.Pointwise.{bytes_decides}
 use mathlib.Core.Path.{sym, ◌∙◌}
 use Rattle.operand.specs.Alike.{alike}
-use Rattle.operand.proofs.SameText.{counts_differ, codes_same, texts_same}
+use Rattle.operand.proofs.SameText.{counts_differ, codes_same}
 use Rattle.operand.proofs.alike.alike.Goals as goal
 
 pub returns-then-n-element_or : goal.returns-then-n-element_or
@@ -13,7 +13,3 @@ returns-then-n-element_or c = counts_differ _ _ _ _ _ _ c.code_alone.ensures c.c
 pub returns-then-eq : goal.returns-then-eq
 unfolding alike
 returns-then-eq c = codes_same _ _ _ _ _ _ c.code_alone.ensures c.code_alone-2.ensures _ _ c.element_or-n.ensures c.element_or.ensures _ _ c.codes_of-a.ensures c.codes_of-b.ensures ((bytes_decides _ _).0 (sym c.eq.ensures ∙ c.if-eq.true))
-
-pub returns : goal.returns
-unfolding alike
-returns c = texts_same _ _ _ _ _ _ c.code_alone.ensures c.code_alone-2.ensures _ _ c.element_or-n.ensures c.element_or.ensures _ _ c.codes_of-a.ensures c.codes_of-b.ensures _ (rw c.args.tables.whole at c.same_texts.ensures)

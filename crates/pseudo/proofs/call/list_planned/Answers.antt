@@ -6,7 +6,7 @@ use Rattle.pseudo.proofs.Calls.{planned, codes_are, plan_fits, plan_indented, ca
 use Rattle.pseudo.proofs.call.list_planned.Goals as goal
 
 pub plan_record-planned-requires : goal.plan_record-planned-requires
-plan_record-planned-requires c = record { isa = c.isa_of.ensures; asked = planned c.args.rec.now c.args.from c.args.to c.args.h c.requires.accepted; rows = c.requires.blocks_value }
+plan_record-planned-requires c = record { asked = planned c.args.rec.now c.args.from c.args.to c.args.h c.requires.accepted; rows = c.requires.blocks_value }
 
 pub list_plan-answer-requires : goal.list_plan-answer-requires
 list_plan-answer-requires c = let h = c.args.h in
@@ -14,7 +14,7 @@ list_plan-answer-requires c = let h = c.args.h in
     let yes = c.requires.accepted in
     let e = codes_are s c.args.from c.args.to h yes _ _ _ _ c.requires.blocks_in_bounds c.plan_record-planned.ensures.lines c.part-plan.ensures.0 in
     let bytes : AllBytes s = λ k. omega (arith, c.type_inv.rec k) in
-    record { tables_value = c.requires.tables_value; rows_value = c.requires.rows_value; blocks_value = c.requires.blocks_value; fits = plan_fits s c.args.from c.args.to h yes _ e bytes _; indented = plan_indented s c.args.from c.args.to h yes _ e }
+    record { rising = c.requires.rising; blocks_value = c.requires.blocks_value; fits = plan_fits s c.args.from c.args.to h yes _ e bytes _; indented = plan_indented s c.args.from c.args.to h yes _ e }
 
 pub returns : goal.returns
 returns c = let s = c.args.rec.now in

@@ -17,4 +17,4 @@ list_planned-requires c = let h = c.args.h in
     let yes = c.requires.accepted in
     let b =
     filled (block_rows h s) _ _ _ (8 * c.size.result) (8 * h.blocks) (blocks_length h s) c.requires.blocks_in_bounds (omega (arith, c.size.ensures)) c.block_rows.ensures c.part-blocks.ensures.0 in
-    record { tables_value = (c.tables-table.ensures, rising s c.args.from c.args.to h yes); rows_value = c.row_table-row.ensures; blocks_value = b; accepted = yes; blocks_in_bounds = c.requires.blocks_in_bounds_2 }
+    record { rising = rising s c.args.from c.args.to h yes; blocks_value = b; accepted = yes; blocks_in_bounds = c.requires.blocks_in_bounds_2 }

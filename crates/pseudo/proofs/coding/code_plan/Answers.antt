@@ -1,7 +1,5 @@
 -- `code_plan` meets its contract.
 -- Where nothing was coded before, what is counted is what the lines have: no sum wraps.
-use native.Mathlib.Omega.{arith}
-use Rattle.codes.proofs.CodedLines.{started_line}
 use Rattle.pseudo.proofs.Listing.{sizes_are, holds_lines}
 use Rattle.pseudo.proofs.coding.code_plan.Goals as goal
 

@@ -1,14 +1,12 @@
 -- `put_marks` meets its contract.
 -- The invariant: the addresses, marks and places left, stored from here, are all of them stored from the start.
-use mathlib.Core.Path.{◌≡◌, refl}
+use mathlib.Core.Path.{◌≡◌}
 use mathlib.Core.List.{map}
-use Prim.Native.Nat.{◌≤◌, ◌-◌}
-use native.Mathlib.Omega.{arith}
+use Prim.Native.Nat.{◌≤◌}
 use lib.ListN.{length, drop}
 use Rattle.lists.specs.Put.{put}
 use Rattle.line.specs.Lines.{line_in}
 use Rattle.pseudo.specs.Listed.{line_address, line_mark, line_place}
-use Rattle.pseudo.proofs.Marking.{place_is, marks_turn, marks_done}
 use Rattle.pseudo.proofs.marks.put_marks.Given as goal
 
 abbrev pub invariant-loop-i : goal.invariant-loop-i

@@ -18,4 +18,4 @@ size_range-requires c = let h = c.args.h in
     let yes = c.requires in
     let b =
     filled (block_rows h s) _ _ _ (8 * c.size.result) (8 * h.blocks) (blocks_length h s) (omega (arith, (limits_small h (limits s c.args.from c.args.to h yes)).blocks)) (omega (arith, c.size.ensures)) c.block_rows.ensures c.part-blocks.ensures.0 in
-    record { tables_value = (c.tables-made.ensures, rising s c.args.from c.args.to h yes); rows_value = c.row_table-row.ensures; blocks_value = b; accepted = yes }
+    record { rising = rising s c.args.from c.args.to h yes; blocks_value = b; accepted = yes }

@@ -1,14 +1,11 @@
 -- `write_turns` meets its contract.
 -- The invariant: the lines left, printed with the registers written before them and written from where the cursor stands, give the page of all.
-use mathlib.Core.Path.{◌≡◌, refl, ◌∙◌}
-use mathlib.Core.List.{map}
-use Prim.Native.Nat.{ℕ, ◌+◌, ◌-◌, ◌≤◌}
+use mathlib.Core.Path.{refl, ◌∙◌}
+use Prim.Native.Nat.{ℕ, ◌+◌, ◌-◌}
 use native.Mathlib.Omega.{arith}
-use lib.ListN.{length, drop, length-replicate}
-use Rattle.line.specs.Lines.{line_in}
-use Rattle.line.specs.Print.{printed}
+use lib.ListN.{length-replicate}
 use Rattle.line.proofs.CodedTurns.{printed_done}
-use Rattle.pseudo.proofs.Listing.{Left, left_all, left_none, part_codes, part_room, part_turn}
+use Rattle.pseudo.proofs.Listing.{left_all, left_none, part_codes, part_room, part_turn}
 use Rattle.pseudo.proofs.writing.write_turns.Goals as goal
 
 pub loop-i-init : goal.loop-i-init
@@ -17,7 +14,7 @@ loop-i-init c = (length-replicate {A = ℕ} 16384 0, omega arith, refl, refl, re
 pub write_part-p-requires : goal.write_part-p-requires
 write_part-p-requires c = let a = c.args in
     let l = c.loop-i in
-    record { lent = record { room = omega (arith, c.loop-i.invariant.0); table = c.requires.tables_value.0; rising = c.requires.tables_value.1 }; rows_value = c.requires.rows_value; blocks_value = c.requires.blocks_value; plan_in_bounds = part_codes a.h a.rec.now a.range c.loop-i.mask c.loop-i.i (c.loop-i.i + 1 - c.loop-i.i) a.plan.now c.loop-i-test.true (omega arith) c.loop-i.invariant.6 _ c.loop-i.invariant.0; room = part_room a.h a.rec.now a.range c.loop-i.mask c.loop-i.i (c.loop-i.i + 1 - c.loop-i.i) a.plan.now c.loop-i-test.true (omega arith) c.loop-i.invariant.6 }
+    record { lent = record { room = omega (arith, c.loop-i.invariant.0); rising = c.requires.rising }; blocks_value = c.requires.blocks_value; plan_in_bounds = part_codes a.h a.rec.now a.range c.loop-i.mask c.loop-i.i (c.loop-i.i + 1 - c.loop-i.i) a.plan.now c.loop-i-test.true (omega arith) c.loop-i.invariant.6 _ c.loop-i.invariant.0; room = part_room a.h a.rec.now a.range c.loop-i.mask c.loop-i.i (c.loop-i.i + 1 - c.loop-i.i) a.plan.now c.loop-i-test.true (omega arith) c.loop-i.invariant.6 }
 
 pub loop-i-preserved : goal.loop-i-preserved
 loop-i-preserved c =

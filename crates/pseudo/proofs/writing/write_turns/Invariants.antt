@@ -1,14 +1,12 @@
 -- `write_turns` meets its contract.
 -- The invariant: the lines left, printed with the registers written before them and written from where the cursor stands, give the page of all.
-use mathlib.Core.Path.{◌≡◌, refl, ◌∙◌}
+use mathlib.Core.Path.{◌≡◌}
 use mathlib.Core.List.{map}
-use Prim.Native.Nat.{ℕ, ◌+◌, ◌-◌, ◌≤◌}
-use native.Mathlib.Omega.{arith}
-use lib.ListN.{length, drop, length-replicate}
+use Prim.Native.Nat.{◌≤◌}
+use lib.ListN.{length, drop}
 use Rattle.line.specs.Lines.{line_in}
 use Rattle.line.specs.Print.{printed}
-use Rattle.line.proofs.CodedTurns.{printed_done}
-use Rattle.pseudo.proofs.Listing.{Left, left_all, left_none, part_codes, part_room, part_turn}
+use Rattle.pseudo.proofs.Listing.{Left}
 use Rattle.pseudo.proofs.writing.write_turns.Given as goal
 
 abbrev pub invariant-loop-i : goal.invariant-loop-i

@@ -6,4 +6,4 @@ use Rattle.structure.proofs.blocks.emit_head.Goals as goal
 
 pub returns : goal.returns
 returns c = let a = c.args in
-    record { lines = stored_three (head_parts a.blocks.now a.edges.now a.shown.now a.count a.from.0 a.i.0 a.to.0 a.indent) (rw c.is_labelled-wanted.ensures.found at c.label-n.ensures) c.body_lines-m.ensures (rw c.last_in.ensures.0 at c.put_line-next.ensures); looks = c.is_labelled-wanted.ensures.looks }
+    record { lines = stored_three (head_parts a.g.now.blocks.now a.g.now.edges.now a.g.now.shown.now a.g.now.count a.from.0 a.i.0 a.to.0 a.indent) (rw c.is_labelled-wanted.ensures.found at c.label-n.ensures) c.body_lines-m.ensures (rw c.last_in.ensures.0 at c.put_line-next.ensures); looks = c.is_labelled-wanted.ensures.looks }

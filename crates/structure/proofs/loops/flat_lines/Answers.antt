@@ -15,17 +15,17 @@ emit_block-next-requires c =
     let a = c.args in (
       search rules,
       rw c.inner_labelled-wanted.ensures
-          (left_part c.loop-k.invariant c.requires.2 (flats_turn a.blocks.now a.shown.now a.i.0 a.j.0 c.loop-k.k a.indent c.loop-k-test.true)),
+          (left_part c.loop-k.invariant c.requires.2 (flats_turn a.g.now.blocks.now a.g.now.shown.now a.i.0 a.j.0 c.loop-k.k a.indent c.loop-k-test.true)),
     )
 
 pub loop-k-preserved : goal.loop-k-preserved
 loop-k-preserved c =
     let a = c.args in
-    left_step c.loop-k.invariant (flats_turn a.blocks.now a.shown.now a.i.0 a.j.0 c.loop-k.k a.indent c.loop-k-test.true)
+    left_step c.loop-k.invariant (flats_turn a.g.now.blocks.now a.g.now.shown.now a.i.0 a.j.0 c.loop-k.k a.indent c.loop-k-test.true)
     (rw c.inner_labelled-wanted.ensures at c.emit_block-next.ensures)
 
 pub returns : goal.returns
 returns c =
     let a = c.args in
     let e : a.j.0 - c.loop-k.k ≡ 0 = omega arith in
-    left_done c.loop-k.invariant (ap (λ (m : ℕ). codes (flat_lines a.blocks.now a.shown.now a.i.0 a.j.0 c.loop-k.k m a.indent)) e ∙ flats_over _ _ _ _ _ _)
+    left_done c.loop-k.invariant (ap (λ (m : ℕ). codes (flat_lines a.g.now.blocks.now a.g.now.shown.now a.i.0 a.j.0 c.loop-k.k m a.indent)) e ∙ flats_over _ _ _ _ _ _)

@@ -8,4 +8,4 @@ use Rattle.structure.proofs.loops.flat_lines.Given as goal
 
 abbrev pub invariant-loop-k : goal.invariant-loop-k
 invariant-loop-k l =
-    Left l.initial.out l.at (codes (flat_lines l.blocks l.shown l.i.0 l.last l.i.0 (l.last - l.i.0) l.indent)) l.out l.next (codes (flat_lines l.blocks l.shown l.i.0 l.last l.k (l.last - l.k) l.indent))
+    Left l.initial.out l.at (codes (flat_lines l.g.blocks.now l.g.shown.now l.i.0 l.last l.i.0 (l.last - l.i.0) l.indent)) l.out l.next (codes (flat_lines l.g.blocks.now l.g.shown.now l.i.0 l.last l.k (l.last - l.k) l.indent))

@@ -17,10 +17,10 @@ decreases-emit_region l = 2 * (l.t.0 - l.i.0)
 abbrev pub invariant-emit_range-loop-i : goal.invariant-emit_range-loop-i
 invariant-emit_range-loop-i l =
     (l.from.0 ≤ l.i)
-    × Left l.initial.out l.at (codes (range_lines l.blocks l.edges l.shown l.starts l.targets l.count l.from.0 l.from.0 l.end l.indent)) l.out l.n (codes (range_lines l.blocks l.edges l.shown l.starts l.targets l.count l.from.0 l.i l.end l.indent))
-    × (l.looks + range_looks l.blocks l.edges l.starts l.targets l.count l.from.0 l.i l.end ≡ range_looks l.blocks l.edges l.starts l.targets l.count l.from.0 l.from.0 l.end)
-    × (range_looks l.blocks l.edges l.starts l.targets l.count l.from.0 l.from.0 l.end < 4611686018427387904)
-    × (edges_before l.blocks l.count ≤ 4294836225)
+    × Left l.initial.out l.at (codes (range_lines l.g.blocks.now l.g.edges.now l.g.shown.now l.g.starts.now l.g.targets.now l.g.count l.from.0 l.from.0 l.end l.indent)) l.out l.n (codes (range_lines l.g.blocks.now l.g.edges.now l.g.shown.now l.g.starts.now l.g.targets.now l.g.count l.from.0 l.i l.end l.indent))
+    × (l.looks + range_looks l.g.blocks.now l.g.edges.now l.g.starts.now l.g.targets.now l.g.count l.from.0 l.i l.end ≡ range_looks l.g.blocks.now l.g.edges.now l.g.starts.now l.g.targets.now l.g.count l.from.0 l.from.0 l.end)
+    × (range_looks l.g.blocks.now l.g.edges.now l.g.starts.now l.g.targets.now l.g.count l.from.0 l.from.0 l.end < 4611686018427387904)
+    × (edges_before l.g.blocks.now l.g.count ≤ 4294836225)
 
 abbrev pub decreases-emit_range-loop-i : goal.decreases-emit_range-loop-i
 decreases-emit_range-loop-i l = l.end - l.i

@@ -1,20 +1,20 @@
 -- `bytes::hex_byte` meets its contract.
--- The invariant: w has i digits, and its j-th is that of v.
-use mathlib.Core.Path.{◌∙◌}
+-- The invariant: each turn takes one digit off w, and its j-th is that of v.
+use mathlib.Core.Path.{refl, ◌∙◌}
+use Prim.Native.Nat.{◌<◌, ◌+◌}
 use native.Mathlib.Omega.{arith}
+use lib.ListN.{length}
+use Rattle.text.specs.Number.{hex_text}
 use Rattle.text.proofs.ByteLaws.{hex_last, hex_fewer, hex_before}
 use Rattle.text.proofs.bytes.hex_byte.Goals as goal
 
-pub loop-i-preserved : goal.loop-i-preserved
-loop-i-preserved c =
-    let l = c.loop-i in
+pub loop-preserved : goal.loop-preserved
+loop-preserved c =
+    let l = c.loop in
     let u = c.args.upper in
     let j = c.args.j in
-    let f = hex_fewer u l.w l.i j l.invariant.3 c.loop-i-test.true in
-    (omega arith, omega arith, omega arith, f, hex_before u l.w l.i j l.invariant.3 c.loop-i-test.true ∙ l.invariant.4)
+    let h : j + 1 < length (hex_text u l.w) = omega arith in
+    (omega (arith, hex_fewer u l.w _ j refl h), hex_before u l.w _ j refl h ∙ l.invariant.1)
 
 pub returns : goal.returns
-returns c =
-    let l = c.loop-i in
-    let a = c.args in
-    c.digit_of.ensures ∙ hex_last a.upper l.w l.i a.j l.invariant.3 (omega (arith, l.invariant.0, c.loop-i-test.false)) ∙ l.invariant.4
+returns c = c.digit_of.ensures ∙ hex_last c.args.upper c.loop.w _ c.args.j refl (omega arith) ∙ c.loop.invariant.1

@@ -1,15 +1,14 @@
 -- A number in decimal: `put_decimal` meets its contract.
--- Each turn stores the last digit that is left.
+-- The invariant: to store the digits left of w where the loop stands is to store those of n where it began.
+use mathlib.Core.Path.{◌∙◌}
 use native.Mathlib.Omega.{arith}
-use Rattle.text.proofs.DecimalDigits.{decimal_left, decimal_turn, decimal_last}
+use Rattle.text.proofs.DecimalDigits.{decimal_turn, decimal_stored}
 use Rattle.text.proofs.decimal.put_decimal.Goals as goal
 
-pub overflow_sub-i : goal.overflow_sub-i
-overflow_sub-i c = decimal_left c.loop-w.invariant c.loop-w-test.true
-
-pub loop-w-preserved : goal.loop-w-preserved
-loop-w-preserved c = decimal_turn c.loop-w.invariant c.loop-w-test.true c.store.ensures
+pub loop-i-preserved : goal.loop-i-preserved
+loop-i-preserved c = decimal_turn c.args.at c.loop-i.i c.loop-i.w _ _ (omega arith) c.store.ensures ∙ c.loop-i.invariant
 
 pub returns : goal.returns
-returns c = let size = c.decimal_length-size.ensures in
-    record { end = (omega (arith, size.0), omega (arith, size.1)); text = decimal_last c.loop-w.invariant (omega (arith, c.loop-w-test.false)) c.store-2.ensures }
+returns c =
+    let size = c.decimal_length-size.ensures in
+    record { end = (omega (arith, size.0), omega (arith, size.1)); text = decimal_stored _ c.loop-i.i _ _ _ _ _ (omega arith) (omega arith) size.0 c.loop-i.invariant }

@@ -1,10 +1,9 @@
 -- A number in decimal: `put_decimal` meets its contract.
--- Each turn stores the last digit that is left.
-use Rattle.text.proofs.DecimalDigits.{Decimal}
+-- The invariant: to store the digits left of w where the loop stands is to store those of n where it began.
+use mathlib.Core.Path.{◌≡◌}
+use Rattle.lists.specs.Put.{put}
+use Rattle.text.proofs.DecimalDigits.{decimal_digits}
 use Rattle.text.proofs.decimal.put_decimal.Given as goal
 
-abbrev pub invariant-loop-w : goal.invariant-loop-w
-invariant-loop-w l = Decimal l.at l.n l.initial.out l.w l.i l.out
-
-abbrev pub decreases-loop-w : goal.decreases-loop-w
-decreases-loop-w l = l.w
+abbrev pub invariant-loop-i : goal.invariant-loop-i
+invariant-loop-i l = put l.at (decimal_digits l.i l.w) l.out ≡ put l.at (decimal_digits l.size l.n) l.initial.out

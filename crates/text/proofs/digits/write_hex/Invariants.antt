@@ -1,16 +1,9 @@
 -- `digits::write_hex` meets its contract.
--- The invariant: the digits stored and those of w are those of v, and to store those of w is to store all.
+-- The invariant: to store the digits left of w where the loop stands is to store those of v where it began.
 use mathlib.Core.Path.{◌≡◌}
-use Prim.Native.Nat.{◌+◌}
-use lib.ListN.{length}
 use Rattle.lists.specs.Put.{put}
-use Rattle.text.specs.Number.{hex_text}
+use Rattle.text.specs.Number.{hex_digits}
 use Rattle.text.proofs.digits.write_hex.Given as goal
 
-abbrev pub invariant-loop-w : goal.invariant-loop-w
-invariant-loop-w l =
-    (l.i ≡ length (hex_text l.upper l.w)) × (length l.out ≡ length l.initial.out) × (put 0 (hex_text l.upper l.w) l.out ≡ put 0 (hex_text l.upper l.v) l.initial.out)
-    × (l.n + length (hex_text l.upper l.w) ≡ length (hex_text l.upper l.v))
-
-abbrev pub decreases-loop-w : goal.decreases-loop-w
-decreases-loop-w l = l.w
+abbrev pub invariant-loop-i : goal.invariant-loop-i
+invariant-loop-i l = put 0 (hex_digits l.upper l.i l.w) l.out ≡ put 0 (hex_digits l.upper l.n l.v) l.initial.out
