@@ -34,7 +34,7 @@ struct Sought {
 }
 
 // The last block from place i on, before `to`, that closes a loop to i. Each block's edges end where those of the block read before
-// it begin.
+// it begin. Counted down by hand: what is proved speaks of the place reached, which `rev` hides in its iterator, so that is no plainer.
 fn last_loop(g: &Graph<'_>, i: Place, to: Place) -> Sought
     requires { to.0 ≤ g.now.count }
     ensures found { result.place ≡ last_loop g.now.blocks.now g.now.edges.now i.0 to.0 }

@@ -1,6 +1,7 @@
 // The four edge tests: does a block close a loop, is a part of the order entered other than at its first place, does a block outside
 // jump to a place, does a region escape. Each reads edges in record order up to the first that decides, and answers with how many
-// it read. The edges of blocks that stand one after the other do so too, so that they are read as one part.
+// it read. The edges of blocks that stand one after the other do so too, so that they are read as one part. The lists are taken one by
+// one, since a `Graph` would ask for more of them than a test does.
 ghost use Rattle.std.specs.Prelude.{not, ◌≡◌, ℕ, Bool, ◌<◌, ◌+◌, ◌*◌, ◌≤◌, length};
 ghost use Rattle.cfg.specs.Graph.{first_edge_in, edges_in, true_edge_to, closes_loop, single_entry, outside_jump, escapes};
 ghost use Rattle.cfg.specs.Turn.{InTurn, edges_before};

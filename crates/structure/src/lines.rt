@@ -15,7 +15,7 @@ fn line_code(what: u64, k: Place, i: u32, indent: u32) -> u64
     what + 16 * (i as u64 + 65536 * (k.0 as u64 + 65536 * indent as u64))
 }
 
-// One line: what it is, its place, its instruction, its indent.
+// One line: what it is, its place, its instruction, its indent. What it is stays a number, as in the code that a lent list has.
 #[tactic(auto, unfolding(lists::specs::Put::put))]
 pub fn put_line(out: &mut [u64], at: usize, what: u64, k: Place, i: u32, indent: u32) -> usize
     requires { (what < 16) × (i < 131072) × (indent < 131072) × Room at (line_code what k.0 i indent ∷ []) }

@@ -32,6 +32,7 @@ fn emit_range(
     let mut i = from.0;
     let mut n = at;
     let mut looks: u64 = 0;
+    // No counted loop: what stands at a place says where the next one is.
     while i < end {
         let seen = shape_at(g, Place(i), to);
         looks += seen.looks;
