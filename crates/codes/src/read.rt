@@ -32,6 +32,8 @@ pub fn width(c: u64) -> usize
     }
 }
 
+// What a text is made of stays a number: it is four bits of a code in the lent list.
+
 // How many bytes the text of a code has.
 #[tactic(auto, unfolding(crate::specs::Code::text_in))]
 fn length_in(tables: &[u8], rec: &[u8], c: u64, v: u64) -> usize
@@ -79,6 +81,7 @@ fn length_of(tables: &[u8], rec: &[u8], c: u64, v: u64) -> usize
 }
 
 // Byte j of the text of all codes of a list; past its end 0. k counts from the code at index i on.
+// No `for`: a code takes one number or two.
 fn byte_at(tables: &[u8], rec: &[u8], codes: &[u64], j: usize) -> u8
     ensures { result ≡ slice_index (spelled (decode tables.now rec.now codes.now)) j }
 {

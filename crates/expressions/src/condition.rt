@@ -78,6 +78,7 @@ fn code_unsigned(codes: &mut [u64], tables: Tables<'_>, rec: &[u8], h: Header, b
     op(codes, tables, rec, h, body, 0)
 }
 
+// A relation of 6 is none: it is a byte of the fixed table, and an `Option` of it is no plainer.
 fn after_cmp(codes: &mut [u64], tables: Tables<'_>, rec: &[u8], h: Header, body: &[u8], cc: u8)
     requires { Lent codes.old h rec.now }
     ensures { Coded table_bytes rec.now codes.old codes.new (after_cmp h rec.now body.now cc) }

@@ -28,6 +28,8 @@ use tokens::words::{LOC, SUB};
 use x86::conditions::negate;
 use x86::width::return_register;
 
+// Pieces and forms stay numbers: they are bytes of the fixed table of rows.
+
 // What a line is printed with: its instruction, the first instruction of its block and of its range, its place, the registers
 // written.
 #[derive(Clone, Copy)]
@@ -112,7 +114,6 @@ fn code_named(
 }
 
 // The registers rax, eax and ecx, from piece 147 on; past the last piece 0.
-#[tactic(auto, unfolding(crate::specs::Codes::piece_of, crate::specs::Print::piece_tokens))]
 fn code_fixed(codes: &mut [u64], tables: Tables<'_>, h: Header, piece: u8)
     requires in_bounds { 5 ≤ length codes.old }
     requires le_piece { 147 ≤ piece }

@@ -131,7 +131,7 @@ fn code_segment(codes: &mut [u64], tables: Tables<'_>, body: &[u8])
     code_argument(codes, tables, memory_address(body))
 }
 
-// A word, or nothing.
+// A word, or nothing. One function over a closure is no plainer here: its contract has to say what the closure codes.
 fn code_if(codes: &mut [u64], tables: Tables<'_>, w: u8, wanted: bool)
     requires { 5 ≤ length codes.old }
     ensures { (s : List ℕ) → Coded table_bytes s codes.old codes.new (pick wanted (word_token w ∷ []) []) }

@@ -3,6 +3,8 @@ ghost use Rattle.std.specs.Prelude.{◌≡◌, ◌+◌, ◌%◌, ◌≤◌, ◌<
 ghost use Rattle.lists.specs.Put.{put};
 ghost use Rattle.writer.specs.Copy.{left};
 
+// Three sizes, not one function over a const N by `copy_from_slice`: tried, and the proof did not close.
+
 // Two bytes of s, read before the first is stored.
 fn copy_two(out: &mut [u8], to: usize, s: &[u8], from: usize)
     requires { (to + 2 ≤ length out.old) × (from + 2 ≤ length s.now) }

@@ -124,7 +124,8 @@ fn end_line(lines: &mut [u32], p: Cursor) -> Cursor
     }
 }
 
-// All codes of a list, which lie within the table and for which there is room.
+// All codes of a list, which lie within the table and for which there is room. No `for`: a code takes one number or two.
+// Four lists lent to be filled stay parameters: the proof of a struct of them does not close.
 pub fn write_codes(
     text: &mut [u8],
     ends: &mut [u32],
