@@ -8,6 +8,7 @@ use lists::parts::{from, part};
 use lists::stores::put_slice;
 
 // A column of m rows: every n-th byte from `first` on, stored from `to` on.
+// It stays by index: `skip`, `step_by` and `zip` over the two lists are no plainer.
 fn put_column(out: &mut [u8], s: &[u8], to: usize, first: usize, m: usize, n: usize)
     requires { (to + m ≤ length out.old) × (first + m * n < length s.now + n) × (length s.now + n < 1_000_000) }
     ensures { out.new ≡ put to (tab (λ i. get_or s.now (first + i * n) 0) 0 m) out.old }

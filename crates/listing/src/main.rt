@@ -68,5 +68,10 @@ fn main(rt: HostRuntime) {
     );
     let mut out = [0u8; 540746];
     let m = answer(part(&rec, 0, n), &mut out);
-    let _ = print_answer(part(&out, 0, m), b"listing", &mut rt.stdout(), &mut rt.stderr());
+    let _ = print_answer(
+        part(&out, 0, m),
+        b"listing",
+        &mut rt.stdout(),
+        &mut rt.stderr(),
+    );
 }

@@ -46,6 +46,7 @@ pub fn put_count(out: &mut [u8], n: u16) -> usize
 }
 
 // The lines from i on, k of them; answers where they end.
+// It stays by index: three lists are read, past their ends as 0, which `zip` would stop at.
 pub fn put_lines(out: &mut [u8], at: usize, i: usize, k: usize, l: &Listing<'_>) -> usize
     requires { (at ≤ 12) × (i ≤ 65535) × (k ≤ 2000) × (length l.now.text ≤ 262144) }
     ensures end { result ≡ at + length (lines_text l.now i k) }

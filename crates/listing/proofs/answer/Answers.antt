@@ -22,8 +22,7 @@ put_page-requires c =
     let whole = c.from-to.ensures ∙ ap (λ (h : Header). h.blocks) c.read_header.ensures in
     let kept = c.list-listed.auto in
     let few = few_lines s _ whole _ _ c.list-listed.ensures.called _ c.in-Ok.is in
-    let short = short_text s _ whole _ _ c.list-listed.ensures.called _ c.in-Ok.is in
-    (
+    let short = short_text s _ whole _ _ c.list-listed.ensures.called _ c.in-Ok.is in (
       omega (arith, few, kept.addresses, length-replicate {A = ℕ} 900 0),
       omega (arith, ap (λ (l : Lists). length l.text) c.cut.ensures, short, length-take c.in-Ok.sizes.text c.list-listed.new.text, kept.text, length-replicate {A = ℕ} 65536 0),
     )

@@ -3,5 +3,5 @@
 use Rattle.std.proofs.Common.{◌-◌, ◌≤◌}
 use Rattle.replay.proofs.replay_all.Given as goal
 
-abbrev pub invariant-loop-_n : goal.invariant-loop-_n
-invariant-loop-_n g l = (l._n ≤ l.count) × (l.differ ≤ l._n)
+abbrev pub invariant-loop-n : goal.invariant-loop-n
+invariant-loop-n g l = (l._n ≤ l.count) × (l.differ ≤ l._n)
