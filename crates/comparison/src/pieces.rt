@@ -3,6 +3,7 @@ ghost use Rattle.std.specs.Prelude.{◌≡◌, ◌≤◌, length};
 ghost use Rattle.lists.specs.Choice.{pick};
 ghost use Rattle.record.specs.Header.{header_of};
 ghost use Rattle.codes.specs.Coded.{Coded};
+ghost use Rattle.codes.specs.Tables.{table_bytes};
 ghost use Rattle.operand.specs.Lent.{Rising, Lent};
 ghost use Rattle.comparison.specs.Pieces.{answer, chosen_tokens, line_answer, has_room, is_listed, exported, LineCoded};
 
