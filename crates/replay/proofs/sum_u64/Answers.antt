@@ -1,6 +1,5 @@
 -- `sum_u64` meets its contract.
 -- The invariant of a sum, with two numbers for each entry.
-use native.Mathlib.Omega.{arith}
 use Rattle.replay.proofs.Turning.{wide_turn, wide_done}
 use Rattle.replay.proofs.sum_u64.Goals as goal
 
