@@ -1,6 +1,6 @@
 -- What `piece_tokens` answers and leaves is what its definition says.
 -- By what is asked for, whether the record and the instruction are accepted, and whether the lists have room; a piece has few tokens.
-use mathlib.Core.Path.{◌≡◌, sym, ap, ◌∙◌}
+use mathlib.Core.Path.{◌≡◌, sym, ap, subst, ◌∙◌}
 use mathlib.Core.Bool.{Bool, true, false, ◌&&◌}
 use mathlib.Core.List.{List, [], ◌∷◌}
 use Prim.Native.Nat.{ℕ, ◌+◌, ◌-◌, ◌*◌, ◌^◌, ◌≤◌, ◌<◌}
@@ -125,3 +125,7 @@ module _ (h : Header) (s : List ℕ) (i : ℕ) (a : h ≡ header_of s) (b : Bool
     pub refused : b ≡ false → answer t e k 0 ≡ exported s first i what t e k
     unfolding exported
     refused y = rw (sym q ∙ y)
+
+-- coded by a table, and by the same table
+pub by_table : {t u s c : List ℕ} {ts : List Token} → t ≡ u → LineCoded u s c ts → LineCoded t s c ts
+by_table {s = s} {c = c} {ts = ts} e p = subst (λ (t : List ℕ). LineCoded t s c ts) (sym e) p
