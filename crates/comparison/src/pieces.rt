@@ -84,7 +84,15 @@ fn write_piece(
     let tokens = codes[1] as usize;
     if (bytes <= text.len()) & (tokens <= ends.len()) & (tokens <= kinds.len()) {
         let mut lines = [0u32; 1];
-        write_listing(text, ends, kinds, &mut lines, table.bytes, rec, codes_of(&codes));
+        write_listing(
+            text,
+            ends,
+            kinds,
+            &mut lines,
+            table.bytes,
+            rec,
+            codes_of(&codes),
+        );
         return bytes as u64 * 4294967296 + tokens as u64;
     }
     0
