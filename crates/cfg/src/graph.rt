@@ -8,8 +8,7 @@ use lists::reads::{element_or, u8_at};
 use record::blocks::Place;
 
 // The rows of a record's blocks, edges and instructions, and the parts of the record that begin at the blocks' starts and at the edges'
-// targets: the edges stand block by block, and each has a target. The last two facts are what the types say, kept for proofs that have
-// it by reference.
+// targets: the edges stand block by block. The last two facts are what the types say, kept for proofs that have it by reference.
 #[derive(Clone, Copy)]
 pub struct Graph<'a> {
     pub blocks: &'a [u16],
@@ -19,7 +18,6 @@ pub struct Graph<'a> {
     pub targets: &'a [u8],
     pub count: u16,
     pub ghost in_turn: { InTurn blocks.now edges.now count },
-    pub ghost in_bounds: { 8 * edges_before blocks.now count ≤ length targets.now },
     pub ghost count_fits: { count < 65536 },
     pub ghost blocks_fit: { (k : ℕ) → get_or blocks.now k 0 < 65536 },
 }

@@ -80,7 +80,7 @@ fn is_loop(g: &Graph<'_>, i: Place, j: Place) -> Looked
 
 // The places from `from` up to t are entered only at the first, and do not escape.
 fn is_region(g: &Graph<'_>, from: Place, t: Place) -> Looked
-    requires from_le_t { (from.0 ≤ t.0) × (t.0 ≤ g.now.count) }
+    requires from_le_t { (from.0 ≤ t.0) × (t.0 ≤ g.now.count) × (8 * edges_before g.now.blocks.now g.now.count ≤ length g.now.targets.now) }
     ensures found { result.found ≡ (single_entry g.now.blocks.now g.now.edges.now g.now.count from.0 t.0 && not (escapes g.now.blocks.now g.now.starts.now g.now.targets.now from.0 t.0)) }
     ensures looks { (result.looks ≡ entry_looks g.now.blocks.now g.now.edges.now g.now.count from.0 t.0 + pick (single_entry g.now.blocks.now g.now.edges.now g.now.count from.0 t.0) (escape_looks g.now.blocks.now g.now.starts.now g.now.targets.now from.0 t.0) 0) × (result.looks ≤ 262140) }
 {
@@ -100,7 +100,7 @@ fn is_region(g: &Graph<'_>, from: Place, t: Place) -> Looked
 
 // An if-region stands at place i of a range up to `to`.
 fn opens_region(g: &Graph<'_>, i: Place, to: Place) -> Looked
-    requires to_le_count { to.0 ≤ g.now.count }
+    requires to_le_count { (to.0 ≤ g.now.count) × (8 * edges_before g.now.blocks.now g.now.count ≤ length g.now.targets.now) }
     ensures found { result.found ≡ opens_region g.now.blocks.now g.now.edges.now g.now.starts.now g.now.targets.now g.now.count i.0 to.0 }
     ensures looks { (result.looks ≡ region_looks g.now.blocks.now g.now.edges.now g.now.starts.now g.now.targets.now g.now.count i.0 to.0) × (result.looks ≤ 262140) }
 {
@@ -120,7 +120,7 @@ fn opens_region(g: &Graph<'_>, i: Place, to: Place) -> Looked
 
 // An if-region or a plain block, behind a search for a loop that read some edges.
 fn region_at(g: &Graph<'_>, i: Place, to: Place, looks: u64) -> Seen
-    requires to_le_count { (to.0 ≤ g.now.count) × (looks ≤ 262140) }
+    requires to_le_count { (to.0 ≤ g.now.count) × (8 * edges_before g.now.blocks.now g.now.count ≤ length g.now.targets.now) × (looks ≤ 262140) }
     ensures shape { result.shape ≡ region_at g.now.blocks.now g.now.edges.now g.now.starts.now g.now.targets.now g.now.count i.0 to.0 }
     ensures looks { result.looks ≡ looks + region_looks g.now.blocks.now g.now.edges.now g.now.starts.now g.now.targets.now g.now.count i.0 to.0 }
 {
@@ -139,7 +139,7 @@ fn region_at(g: &Graph<'_>, i: Place, to: Place, looks: u64) -> Seen
 
 // What stands at place i of a range up to `to`. No shorter loop is tried.
 pub fn shape_at(g: &Graph<'_>, i: Place, to: Place) -> Seen
-    requires i_lt_to { (i.0 < to.0) × (to.0 ≤ g.now.count) }
+    requires i_lt_to { (i.0 < to.0) × (to.0 ≤ g.now.count) × (8 * edges_before g.now.blocks.now g.now.count ≤ length g.now.targets.now) }
     ensures shape { result.shape ≡ shape_at g.now.blocks.now g.now.edges.now g.now.starts.now g.now.targets.now g.now.count i.0 to.0 }
     ensures looks { (result.looks ≡ shape_looks g.now.blocks.now g.now.edges.now g.now.starts.now g.now.targets.now g.now.count i.0 to.0) × (result.looks ≤ 4 * edges_before g.now.blocks.now g.now.count) }
 {

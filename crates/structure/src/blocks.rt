@@ -54,13 +54,20 @@ fn body_count(blocks: &[u16], k: Place) -> u32
     n
 }
 
-fn body_lines(g: &Graph<'_>, k: Place, indent: u32, out: &mut [u64], at: usize) -> usize
-    requires { (indent < 131072) × Room at (codes (body_lines g.now.blocks.now g.now.shown.now k.0 indent)) }
-    ensures { Stored out.old at (codes (body_lines g.now.blocks.now g.now.shown.now k.0 indent)) result out.new }
+fn body_lines(
+    blocks: &[u16],
+    shown: &[u8],
+    k: Place,
+    indent: u32,
+    out: &mut [u64],
+    at: usize,
+) -> usize
+    requires { (indent < 131072) × Room at (codes (body_lines blocks.now shown.now k.0 indent)) }
+    ensures { Stored out.old at (codes (body_lines blocks.now shown.now k.0 indent)) result out.new }
 {
-    let first = first_in(g.blocks, k) as u32;
-    let n = body_count(g.blocks, k);
-    shown_lines(g.shown, k, first, n, indent, out, at)
+    let first = first_in(blocks, k) as u32;
+    let n = body_count(blocks, k);
+    shown_lines(shown, k, first, n, indent, out, at)
 }
 
 // A direct jmp goes to the next place, and that lies in the range.
@@ -110,7 +117,8 @@ fn closing_line(
 
 // The block at place k of a range that ends at `to`: its label, if wanted, its instructions, its closing branch or jmp.
 pub fn emit_block(
-    g: &Graph<'_>,
+    blocks: &[u16],
+    shown: &[u8],
     wanted: bool,
     k: Place,
     to: Place,
@@ -118,12 +126,12 @@ pub fn emit_block(
     out: &mut [u64],
     at: usize,
 ) -> usize
-    requires { (indent < 131072) × Room at (codes (block_lines g.now.blocks.now g.now.shown.now wanted k.0 to.0 indent)) }
-    ensures { Stored out.old at (codes (block_lines g.now.blocks.now g.now.shown.now wanted k.0 to.0 indent)) result out.new }
+    requires { (indent < 131072) × Room at (codes (block_lines blocks.now shown.now wanted k.0 to.0 indent)) }
+    ensures { Stored out.old at (codes (block_lines blocks.now shown.now wanted k.0 to.0 indent)) result out.new }
 {
     let n = label(out, at, wanted, k, indent);
-    let m = body_lines(g, k, indent, out, n);
-    closing_line(g.blocks, k, to, indent, out, m)
+    let m = body_lines(blocks, shown, k, indent, out, n);
+    closing_line(blocks, k, to, indent, out, m)
 }
 
 // A plain block at place i of the range from `from` up to `to`.
@@ -142,7 +150,7 @@ pub fn emit_plain(
     ensures looks { (result.looks ≡ label_looks g.now.blocks.now g.now.edges.now g.now.count from.0 i.0 to.0) × (result.looks ≤ edges_before g.now.blocks.now g.now.count) }
 {
     let wanted = is_labelled(g, from, i, to);
-    let next = emit_block(g, wanted.found, i, to, indent, out, at);
+    let next = emit_block(g.blocks, g.shown, wanted.found, i, to, indent, out, at);
     Written {
         next,
         looks: wanted.looks,
@@ -166,7 +174,7 @@ pub fn emit_head(
 {
     let wanted = is_labelled(g, from, i, to);
     let n = label(out, at, wanted.found, i, indent);
-    let m = body_lines(g, i, indent, out, n);
+    let m = body_lines(g.blocks, g.shown, i, indent, out, n);
     let next = put_line(out, m, 2, i, last_in(g.blocks, i), indent);
     Written {
         next,

@@ -29,7 +29,16 @@ fn flat_lines(g: &Graph<'_>, i: Place, j: Place, indent: u32, out: &mut [u64], a
     let mut next = at;
     for k in i.0..last {
         let wanted = inner_labelled(g.blocks, i, Place(k));
-        next = emit_block(g, wanted, Place(k), Place(last + 1), indent, out, next);
+        next = emit_block(
+            g.blocks,
+            g.shown,
+            wanted,
+            Place(k),
+            Place(last + 1),
+            indent,
+            out,
+            next,
+        );
     }
     next
 }

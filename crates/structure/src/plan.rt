@@ -24,6 +24,7 @@ fn emit_range(
     at: usize,
 ) -> Written
     requires to_le_count { (to.0 ≤ g.now.count) × (indent + (to.0 - from.0) < 131072) }
+    requires count_in_bounds { 8 * edges_before g.now.blocks.now g.now.count ≤ length g.now.targets.now }
     requires room { Room at (codes (range_lines g.now.blocks.now g.now.edges.now g.now.shown.now g.now.starts.now g.now.targets.now g.now.count from.0 from.0 to.0 indent)) }
     ensures lines { Stored out.old at (codes (range_lines g.now.blocks.now g.now.edges.now g.now.shown.now g.now.starts.now g.now.targets.now g.now.count from.0 from.0 to.0 indent)) result.next out.new }
     ensures looks { result.looks ≡ range_looks g.now.blocks.now g.now.edges.now g.now.starts.now g.now.targets.now g.now.count from.0 from.0 to.0 }
@@ -74,6 +75,7 @@ fn emit_region(
     at: usize,
 ) -> Written
     requires from_le_i { (from.0 ≤ i.0) × (i.0 + 1 < t.0) × (t.0 ≤ to.0) × (to.0 ≤ g.now.count) × (indent + (t.0 - i.0) < 131072) }
+    requires count_in_bounds { 8 * edges_before g.now.blocks.now g.now.count ≤ length g.now.targets.now }
     requires room { Room at (codes (region_lines g.now.blocks.now g.now.edges.now g.now.shown.now g.now.count (range_lines g.now.blocks.now g.now.edges.now g.now.shown.now g.now.starts.now g.now.targets.now g.now.count (i.0 + 1) (i.0 + 1) t.0 (indent + 1)) from.0 i.0 to.0 indent)) }
     ensures lines { Stored out.old at (codes (region_lines g.now.blocks.now g.now.edges.now g.now.shown.now g.now.count (range_lines g.now.blocks.now g.now.edges.now g.now.shown.now g.now.starts.now g.now.targets.now g.now.count (i.0 + 1) (i.0 + 1) t.0 (indent + 1)) from.0 i.0 to.0 indent)) result.next out.new }
     ensures looks { result.looks ≡ label_looks g.now.blocks.now g.now.edges.now g.now.count from.0 i.0 to.0 + range_looks g.now.blocks.now g.now.edges.now g.now.starts.now g.now.targets.now g.now.count (i.0 + 1) (i.0 + 1) t.0 }
@@ -91,6 +93,7 @@ fn emit_region(
 // lines there are, stored or not, and how many edges were read for them.
 pub fn plan(g: &Graph<'_>, from: u16, to: u16, indent: u8, out: &mut [u64]) -> Written
     requires to_le_count { to ≤ g.now.count }
+    requires count_in_bounds { 8 * edges_before g.now.blocks.now g.now.count ≤ length g.now.targets.now }
     ensures lines { Stored out.old 0 (plan_codes g.now.blocks.now g.now.edges.now g.now.shown.now g.now.starts.now g.now.targets.now g.now.count from to indent) result.next out.new }
     ensures looks { (result.looks ≡ range_looks g.now.blocks.now g.now.edges.now g.now.starts.now g.now.targets.now g.now.count from from to) × (result.looks ≤ 5 * (to - from) * edges_before g.now.blocks.now g.now.count) }
 {

@@ -30,4 +30,4 @@ module _ (blocks edges starts targets : List ℕ) (B from t : ℕ) where
 
 pub region_escapes-escape-requires : goal.region_escapes-escape-requires
 region_escapes-escape-requires c = let a = c.args in
-    record { turns = λ k h. c.args.g.now.in_turn.first k (search rules); from_le_to = (c.requires.from_le_t.0, omega (arith, c.args.g.now.in_bounds, c.requires.from_le_t, before_le a.g.now.blocks.now a.t.0 a.g.now.count c.requires.from_le_t.1)) }
+    record { turns = λ k h. c.args.g.now.in_turn.first k (search rules); from_le_to = (c.requires.from_le_t.0, omega (arith, c.requires.from_le_t, before_le a.g.now.blocks.now a.t.0 a.g.now.count c.requires.from_le_t.1)) }

@@ -42,7 +42,16 @@ invariant_of-g c = let h = c.args.h in
     filled (edge_rows h s) _ _ _ (2 * c.from.result) (2 * h.edges) (edges_length h s) c.requires.room (omega (arith, c.from.ensures))
     c.edge_rows.ensures c.part.ensures.0 in
     let t = array _ _ _ _ c.targets_at.ensures.0 c.from-4.ensures.0 in
-    let held = plans h s _ _ _ _ c.requires.rows d c.from-3.ensures.0 t c.args.from c.args.to c.requires.asked in record { in_turn = held.1.0; in_bounds = held.1.1; count_fits = omega arith; blocks_fit = λ k. omega (arith, c.type_inv.blocks k) }
+    let held = plans h s _ _ _ _ c.requires.rows d c.from-3.ensures.0 t c.args.from c.args.to c.requires.asked in record { in_turn = held.1.0; count_fits = omega arith; blocks_fit = λ k. omega (arith, c.type_inv.blocks k) }
+
+pub plan-requires : goal.plan-requires
+plan-requires c = let h = c.args.h in
+    let s = c.args.rec.now in
+    let d =
+    filled (edge_rows h s) _ _ _ (2 * c.from.result) (2 * h.edges) (edges_length h s) c.requires.room (omega (arith, c.from.ensures))
+    c.edge_rows.ensures c.part.ensures.0 in
+    let t = array _ _ _ _ c.targets_at.ensures.0 c.from-4.ensures.0 in
+    let held = plans h s _ _ _ _ c.requires.rows d c.from-3.ensures.0 t c.args.from c.args.to c.requires.asked in record { to_le_count = held.0; count_in_bounds = held.1.1 }
 
 pub returns : goal.returns
 unfolding record_plan

@@ -8,19 +8,19 @@ use Rattle.structure.proofs.blocks.emit_block.Goals as goal
 pub label-n-requires : goal.label-n-requires
 label-n-requires c =
     let a = c.args in
-    (search rules, room_first (block_parts a.g.now.blocks.now a.g.now.shown.now a.wanted a.k.0 a.to.0 a.indent) c.requires.1)
+    (search rules, room_first (block_parts a.blocks.now a.shown.now a.wanted a.k.0 a.to.0 a.indent) c.requires.1)
 
 pub body_lines-m-requires : goal.body_lines-m-requires
 body_lines-m-requires c =
     let a = c.args in
-    (search rules, room_second (block_parts a.g.now.blocks.now a.g.now.shown.now a.wanted a.k.0 a.to.0 a.indent) c.label-n.ensures c.requires.1)
+    (search rules, room_second (block_parts a.blocks.now a.shown.now a.wanted a.k.0 a.to.0 a.indent) c.label-n.ensures c.requires.1)
 
 pub closing_line-requires : goal.closing_line-requires
 closing_line-requires c =
     let a = c.args in
-    (search rules, room_third (block_parts a.g.now.blocks.now a.g.now.shown.now a.wanted a.k.0 a.to.0 a.indent) c.label-n.ensures c.body_lines-m.ensures c.requires.1)
+    (search rules, room_third (block_parts a.blocks.now a.shown.now a.wanted a.k.0 a.to.0 a.indent) c.label-n.ensures c.body_lines-m.ensures c.requires.1)
 
 pub returns : goal.returns
 returns c =
     let a = c.args in
-    stored_three (block_parts a.g.now.blocks.now a.g.now.shown.now a.wanted a.k.0 a.to.0 a.indent) c.label-n.ensures c.body_lines-m.ensures c.closing_line.ensures
+    stored_three (block_parts a.blocks.now a.shown.now a.wanted a.k.0 a.to.0 a.indent) c.label-n.ensures c.body_lines-m.ensures c.closing_line.ensures

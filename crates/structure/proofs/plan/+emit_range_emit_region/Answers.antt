@@ -60,7 +60,7 @@ emit_range-emit_region-written-requires t c =
     let a = c.args in
     let r = turned a.g.now.blocks.now a.g.now.edges.now a.g.now.shown.now a.g.now.starts.now a.g.now.targets.now a.g.now.count a.from.0 c.loop-i.i a.to.0 a.indent c.loop-i-test.true (Region c.in-Region.t) (sym c.shape_at-seen.ensures.shape ∙ c.in-Region.is) in
     let room = left_part c.loop-i.invariant.1 c.requires.room r.1 in
-    (omega (arith, r.0, c.decreases, c.loop-i.invariant.0), ((c.loop-i.invariant.0, omega (arith, r.0), omega (arith, r.0), c.requires.to_le_count.0, omega (arith, r.0, c.requires.to_le_count, c.loop-i.invariant.0)), room))
+    (omega (arith, r.0, c.decreases, c.loop-i.invariant.0), ((c.loop-i.invariant.0, omega (arith, r.0), omega (arith, r.0), c.requires.to_le_count.0, omega (arith, r.0, c.requires.to_le_count, c.loop-i.invariant.0)), (c.requires.count_in_bounds, room)))
 
 pub emit_range-overflow_add-looks-in-Region : goal.emit_range-overflow_add-looks-in-Region
 emit_range-overflow_add-looks-in-Region t c =
@@ -115,7 +115,7 @@ pub emit_region-emit_range-inner-requires : goal.emit_region-emit_range-inner-re
 emit_region-emit_range-inner-requires t c =
     let a = c.args in
     let room = room_second (region_parts a.g.now.blocks.now a.g.now.edges.now a.g.now.shown.now a.g.now.count (range_lines a.g.now.blocks.now a.g.now.edges.now a.g.now.shown.now a.g.now.starts.now a.g.now.targets.now a.g.now.count (a.i.0 + 1) (a.i.0 + 1) a.t.0 (a.indent + 1)) a.from.0 a.i.0 a.to.0 a.indent) c.emit_head-head.ensures.lines c.requires.room in
-    (omega (arith, c.decreases, c.requires.from_le_i), ((omega (arith, c.requires.from_le_i), omega (arith, c.requires.from_le_i)), room))
+    (omega (arith, c.decreases, c.requires.from_le_i), ((omega (arith, c.requires.from_le_i), omega (arith, c.requires.from_le_i)), (c.requires.count_in_bounds, room)))
 
 pub emit_region-put_line-next-requires : goal.emit_region-put_line-next-requires
 emit_region-put_line-next-requires t c =
