@@ -1,5 +1,5 @@
 // The bytes that are set for a call: the search back over the earlier lines of its block, and the literal found there.
-ghost use Rattle.std.specs.Prelude.{◌≡◌, ◌≤◌, length};
+ghost use Rattle.std.specs.Prelude.{◌≡◌, ◌≤◌, length, IfSome};
 ghost use Rattle.tokens.specs.Token.{token};
 ghost use Rattle.rows.specs.Rows.{row_at};
 ghost use Rattle.commands.specs.Literals.{string_of};
@@ -61,7 +61,8 @@ fn set_by(l: &Listing<'_>, i: usize, out: &mut [u8]) -> Option<usize>
 // How many bytes are set for the call on line k, from the start of `out` on.
 pub fn bytes_for(l: &Listing<'_>, register: &[u8], k: usize, out: &mut [u8]) -> Option<usize>
     requires { 80 ≤ length out.old }
-    ensures { Gives result out.new (bytes_for l.now register.now k) }
+    ensures gives { Gives result out.new (bytes_for l.now register.now k) }
+    ensures few { IfSome result (λ n. n ≤ 80) }
 {
     let i = line_before(l, register, k)?;
     set_by(l, i, out)

@@ -25,7 +25,7 @@ fn says(s: &[u8], k: u16) -> bool
 
 // The number below 276 that a text says.
 fn number_in(s: &[u8]) -> Option<u16>
-    ensures { MatchOption result ((k : ℕ) → k < 276 → Says s.now k → ⊥) (λ k. (k < 276) × Says s.now k) }
+    ensures { MatchOption result ((k : ℕ) → k < 276 → Says s.now k → ⊥) (λ k. (k < 276) × Says s.now k × ((j : ℕ) → j < k → Says s.now j → ⊥)) }
 {
     (0..276).find(|&k| says(s, k))
 }

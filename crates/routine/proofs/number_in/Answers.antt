@@ -12,9 +12,9 @@ use Rattle.routine.proofs.number_in.Goals as goal
 
 found : (P : ℕ → Type 0) (n : ℕ) (r : Option ℕ)
     → MatchOption r ((k : ℕ) → 0 ≤ k → k < n → P k → ⊥) (λ i. (0 ≤ i) × (i < n) × P i × ((k : ℕ) → 0 ≤ k → k < i → P k → ⊥))
-    → MatchOption r ((k : ℕ) → k < n → P k → ⊥) (λ k. (k < n) × P k)
+    → MatchOption r ((k : ℕ) → k < n → P k → ⊥) (λ k. (k < n) × P k × ((j : ℕ) → j < k → P j → ⊥))
 found P n None h = λ k l p. h k (omega arith) l p
-found P n (Some i) h = (h.1, h.2)
+found P n (Some i) h = (h.1, h.2, λ j l p. h.3 j (omega arith) l p)
 
 pub returns : goal.returns
 returns c =

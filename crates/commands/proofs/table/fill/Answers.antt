@@ -14,11 +14,11 @@ loop-k-preserved c =
     let h = c.loop-k-test.true in
     elim c.if-calls_to.branch [
       | then-calls_to w ↦
-          let f = w.bytes_for-c.ensures.size in
+          let f = w.bytes_for-c.ensures.gives.size in
           let q = found_few _ _ _ _ f in (
             going_on c.loop-k.invariant.0 h _ _ (omega (arith, w.n-is)) (omega (arith, w.x-is, w.put_row-x.ensures.end, q)) (rw w.found-is w.bytes_for-c.auto.out),
             rw (w.n-is, w.x-is, w.bytes-is, w.rows-is, w.calls-is)
-                (storing_call _ _ _ _ _ h c.calls_to.ensures w.if-calls_to.true c.loop-k.invariant.1 f _ _ _ w.bytes_for-c.ensures.bytes
+                (storing_call _ _ _ _ _ h c.calls_to.ensures w.if-calls_to.true c.loop-k.invariant.1 f _ _ _ w.bytes_for-c.ensures.gives.bytes
                 w.put_row-x.ensures.end w.put_row-x.ensures.bytes w.put_row-x.ensures.row (rw (← c.l.view_is) w.element_or.ensures) w.store.ensures),
           )
       | else-calls_to w ↦ (

@@ -11,7 +11,7 @@ loop-k-preserved c =
     let h = c.loop-k-test.true in
     elim c.if-calls_to.branch [
       | then-calls_to w ↦
-          let f = w.bytes_for.ensures.size in
+          let f = w.bytes_for.ensures.gives.size in
           let y = w.unwrap_or-x.ensures in
           let q = found_few _ _ _ _ f in (
             going_on c.loop-k.invariant.0 h _ _ (omega (arith, w.n-is)) (omega (arith, w.x-is, y, q)) (rw w.found-is w.bytes_for.auto.out),
