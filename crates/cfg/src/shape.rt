@@ -34,7 +34,7 @@ struct Sought {
 }
 
 // The last block from place i on, before `to`, that closes a loop to i. Each block's edges end where those of the block read before
-// it begin. Counted down by hand: what is proved speaks of the place reached, which `rev` hides in its iterator, so that is no plainer.
+// it begin.
 fn last_loop(g: &Graph<'_>, i: Place, to: Place) -> Sought
     requires { to.0 ≤ g.now.count }
     ensures found { result.place ≡ last_loop g.now.blocks.now g.now.edges.now i.0 to.0 }
@@ -42,9 +42,7 @@ fn last_loop(g: &Graph<'_>, i: Place, to: Place) -> Sought
 {
     let mut end = edges_before(g.blocks, to);
     let mut looks: u64 = 0;
-    let mut j = to.0;
-    while i.0 < j {
-        j -= 1;
+    for j in (i.0..to.0).rev() {
         let e = first_edge_in(g.blocks, Place(j)) as usize;
         let read = closes_loop(g.blocks, g.edges, i, Place(j), e, end - e);
         looks += read.looks;

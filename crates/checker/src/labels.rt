@@ -11,8 +11,8 @@ use structure::codes::{place_of_line, what_of};
 fn label_stands(codes: &[u64], k: Place) -> bool
     ensures { result ≡ label_stands k.0 (map line_in codes.now) }
 {
-    for i in 0..codes.len() {
-        if (what_of(codes[i]) == 0) & (place_of_line(codes[i]) == k.0) {
+    for &code in codes {
+        if (what_of(code) == 0) & (place_of_line(code) == k.0) {
             return true;
         }
     }
@@ -33,8 +33,8 @@ fn is_labelled(blocks: &[u16], codes: &[u64], code: u64) -> bool
 pub fn all_labelled(blocks: &[u16], codes: &[u64]) -> bool
     ensures { result ≡ all_labelled blocks.now (map line_in codes.now) }
 {
-    for i in 0..codes.len() {
-        if !is_labelled(blocks, codes, codes[i]) {
+    for &code in codes {
+        if !is_labelled(blocks, codes, code) {
             return false;
         }
     }

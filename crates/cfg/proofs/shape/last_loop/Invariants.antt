@@ -9,7 +9,4 @@ use Rattle.cfg.proofs.shape.last_loop.Given as goal
 
 abbrev pub invariant-loop-j : goal.invariant-loop-j
 invariant-loop-j l =
-    (l.j ≤ l.initial.j) × (l.end ≡ edges_before l.g.blocks.now l.j) × (l.looks + l.end ≤ l.initial.end) × (l.initial.end ≤ 131070) × (2 * l.end ≤ length l.g.edges.now) × Left l.g.blocks.now l.g.edges.now l.i.0 l.initial.j l.j l.looks
-
-abbrev pub decreases-loop-j : goal.decreases-loop-j
-decreases-loop-j l = l.j
+    (l.j ≤ l.fn.to.0) × (l.end ≡ edges_before l.g.blocks.now l.j) × (l.looks + l.end ≤ l.initial.end) × (l.initial.end ≤ 131070) × (2 * l.end ≤ length l.g.edges.now) × Left l.g.blocks.now l.g.edges.now l.i.0 l.fn.to.0 l.j l.looks

@@ -4,6 +4,6 @@ use Rattle.route.specs.Assumed.{all_labelled}
 use borrow.Author.Rules.{rules}
 use Rattle.checker.proofs.labels.all_labelled.Goals as goal
 
-pub loop-i-init : goal.loop-i-init
+pub loop-code-init : goal.loop-code-init
 unfolding all_labelled
-loop-i-init c = search rules
+loop-code-init c = search rules

@@ -9,5 +9,5 @@ use Rattle.route.specs.Assumed.{all_labelled}
 use Rattle.checker.proofs.Labelled.{labelled_from}
 use Rattle.checker.proofs.labels.all_labelled.Given as goal
 
-abbrev pub invariant-loop-i : goal.invariant-loop-i
-invariant-loop-i l = (l.i ≤ length l.codes) × (all_labelled l.blocks (map line_in l.codes) ≡ labelled_from l.blocks (map line_in l.codes) l.codes l.i)
+abbrev pub invariant-loop-code : goal.invariant-loop-code
+invariant-loop-code l = (l.code-index ≤ length l.codes) × (all_labelled l.blocks (map line_in l.codes) ≡ labelled_from l.blocks (map line_in l.codes) l.codes l.code-index)

@@ -8,5 +8,5 @@ use Rattle.line.specs.Lines.{line_in}
 use Rattle.route.specs.Assumed.{label_stands}
 use Rattle.checker.proofs.labels.label_stands.Given as goal
 
-abbrev pub invariant-loop-i : goal.invariant-loop-i
-invariant-loop-i l = (l.i ≤ length l.codes) × (label_stands l.k.0 (map line_in l.codes) ≡ label_stands l.k.0 (map line_in (drop l.i l.codes)))
+abbrev pub invariant-loop-code : goal.invariant-loop-code
+invariant-loop-code l = (l.code-index ≤ length l.codes) × (label_stands l.k.0 (map line_in l.codes) ≡ label_stands l.k.0 (map line_in (drop l.code-index l.codes)))
