@@ -8,7 +8,7 @@ ghost use Rattle.cfg.specs.Reads.{Reads};
 use lists::reads::plain_u64;
 use record::blocks::{Address, Place};
 
-// What reading edges up to the first wanted one came to.
+// What reading edges up to the first wanted one came to. No `Option`: the looks count where none is found too.
 #[derive(Clone, Copy)]
 pub struct Looked {
     pub found: bool,

@@ -22,6 +22,7 @@ pub struct Graph<'a> {
     pub ghost blocks_fit: { (k : ℕ) → get_or blocks.now k 0 < 65536 },
 }
 
+// One reader for each number of a block's row: with the number's place as an argument the names would be lost.
 pub fn first_in(blocks: &[u16], k: Place) -> u16
     ensures { (result ≡ first_in blocks.now k.0) × (result < 65536) }
 {

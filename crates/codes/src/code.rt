@@ -73,7 +73,7 @@ pub fn code_part(codes: &mut [u64], rec: &[u8], k: u8, at: u32, n: u16)
     put_code(codes, k, 1, n, at, part(rec, at as usize, n as usize).len())
 }
 
-// What a number's text is made of, with a minus or without.
+// What a number's text is made of, with a minus or without: by the number that stands in a code.
 fn number_of(negative: bool) -> u8
     ensures { (result ≡ pick negative 3 2) × (result < 7) }
 {

@@ -198,7 +198,7 @@ const TABLE: Table = *b"\
     \x05\x05\x06\0\x0f\0\0\0\
 ";
 
-// The table, to be lent.
+// The table, to be lent. Each table has such a function of its own: a constant has no contract.
 pub fn token_table() -> Table
     ensures { result ≡ table_bytes }
 {

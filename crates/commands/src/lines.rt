@@ -9,7 +9,7 @@ use lists::parts::part;
 use lists::reads::{element_or, u8_at};
 use rows::listing::Listing;
 
-// The kind of token k of line i; 0 if the line has no such token.
+// The kind of token k of line i; 0 if the line has no such token: no `Option`, since the token that stands for none has kind 0 and no text.
 pub fn kind_of(l: &Listing<'_>, i: usize, k: usize) -> u8
     ensures { result ≡ (token_of (row_at l.now i) k).kind }
 {

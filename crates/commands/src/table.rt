@@ -24,6 +24,7 @@ pub struct Size {
 }
 
 // The sizes of the table of the first m lines.
+// No heap: what it fills are arrays.
 fn measure(l: &Listing<'_>, m: usize, call: &[u8], register: &[u8]) -> Size
     requires { m < 2 ^ 32 }
     ensures { Measured (made l.now call.now register.now m) result.bytes result.rows }
@@ -70,6 +71,7 @@ fn put_row(
 }
 
 // The table of the first m lines, from the start of its lists on.
+// No heap: what it fills are arrays.
 #[tactic(auto, using(crate::proofs::Turns::call_room))]
 fn fill(
     l: &Listing<'_>,

@@ -41,7 +41,7 @@ fn when(t: bool, s: At) -> At
     if t { s } else { At::Bad }
 }
 
-// The kind whose letter a byte is, 8 if none.
+// The kind whose letter a byte is, 8 if none: a number and no `Option`, since it is stored in a lent list of kinds and compared there.
 pub fn kind_of(c: u8) -> u8
     ensures { result ≡ kind_of c }
 {

@@ -93,6 +93,7 @@ fn answer_with(
 
 // Part p of what the program prints of rows; answers how many bytes that is. `lines=21845` and LF are 12, each of 2,000 lines has 16 digits,
 // a space, at most 2 * 255 spaces and LF beside its text, and the text at most 262,144: 1,318,156 bytes in all.
+// No heap: what it fills are arrays.
 fn answer(rows: &[u8], p: usize, out: &mut [u8]) -> usize
     requires { (p < 11) × (1318156 ≤ length out.old) }
     ensures { Prints rows.now p (take result out.new) }
@@ -119,6 +120,7 @@ fn answer(rows: &[u8], p: usize, out: &mut [u8]) -> usize
 }
 
 // Reads at most 262,145 bytes, one more than a file of rows may have.
+// No heap: what it fills are arrays.
 fn main(rt: HostRuntime) {
     let mut rows = [0u8; 262145];
     let n = bytes_read(

@@ -137,6 +137,7 @@ fn answer(input: &[u8], out: &mut [u8]) -> usize
 }
 
 // Reads at most 65,537 bytes, one more than an input may have.
+// No heap: what it fills are arrays.
 fn main(rt: HostRuntime) {
     let mut input = [0u8; 65537];
     let n = bytes_read(

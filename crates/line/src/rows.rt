@@ -73,7 +73,7 @@ const ROWS: Table = *b"\
     \x27\x27\x27\x27\x27\x27\x27\x27\x27\x27\x27\x27\x27\x27\x27\x27\
 ";
 
-// The table, to be lent.
+// The table, to be lent. Each table has such a function of its own: a constant has no contract.
 pub fn row_table() -> Table
     ensures { result ≡ row_bytes }
 {

@@ -16,6 +16,7 @@ use stdio::output::print_answer;
 
 // What the program prints of a record; answers how many bytes that is. `lines=900` and LF are 10, each of 900 lines has 16 digits,
 // a space, at most 2 * 255 spaces and LF beside its text, and the text at most 65,536: 540,746 bytes in all.
+// No heap: what it fills are arrays.
 fn answer(rec: &[u8], out: &mut [u8]) -> usize
     requires { 540746 ≤ length out.old }
     ensures { Prints page_of rec.now (take result out.new) }
@@ -58,6 +59,8 @@ fn answer(rec: &[u8], out: &mut [u8]) -> usize
 }
 
 // Reads at most 65,537 bytes, one more than a record may have. No bytes are no record: where the input cannot be read, question 1 gets a no.
+// `to_csv` reads and prints likewise: its `answer` is another, and a function is no parameter of a program's main.
+// No heap: what it fills are arrays.
 fn main(rt: HostRuntime) {
     let mut rec = [0u8; 65537];
     let n = bytes_read(

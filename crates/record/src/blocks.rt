@@ -12,6 +12,7 @@ pub struct Address(pub u64);
 #[derive(Clone, Copy, PartialEq, Eq, PartialOrd, Ord)]
 pub struct Place(pub u16);
 
+// One reader for each field of an array: with the field's offset as an argument the names would be lost.
 pub fn start_at(starts: &[u8], k: Place) -> Address
     ensures { result.0 ≡ start_at starts.now k.0 }
 {

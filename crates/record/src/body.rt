@@ -19,6 +19,7 @@ pub fn body_at(bodies: &[u8], i: u16) -> &[u8]
     from(bodies, 92 * i as usize)
 }
 
+// One reader for each field: with the field's offset as an argument the names would be lost.
 pub fn mnemonic(body: &[u8]) -> u8
     ensures { result ≡ mnemonic_of body.now }
 {

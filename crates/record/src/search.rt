@@ -41,7 +41,8 @@ pub fn first_of(numbers: &[u8], count: u16, x: u64) -> Option<u16>
     None
 }
 
-// By halving, where all numbers are there: those below `low` are smaller than x, those from `high` on greater.
+// By halving, where all numbers are there: those below `low` are smaller than x, those from `high` on greater. No
+// counted loop: what is left is halved.
 fn plain_search(numbers: &[u8], count: u16, x: u64) -> Option<u16>
     requires rises { Rises (number_at numbers.now) count }
     requires there { 8 * count ≤ length numbers.now }

@@ -142,6 +142,7 @@ fn replay_lists(
 }
 
 // Seven lists as long as the program `listing` has them, every byte 0xee.
+// No heap: what it fills are arrays.
 fn replay_case(case: &[u8]) -> bool {
     let mut text = [0xeeu8; 65536];
     let mut ends = [0xeeee_eeeeu32; 16384];
@@ -203,6 +204,7 @@ fn read_full(from: &mut impl Read, list: &mut [u8]) -> usize
     n
 }
 
+// No heap: what it fills are arrays.
 fn main(rt: HostRuntime) {
     let mut space = [0u8; 400000];
     let n = read_full(&mut rt.stdin(), &mut space);

@@ -43,6 +43,7 @@ fn answer(s: &[u8], out: &mut [u8]) -> usize
 }
 
 // Reads at most 16 bytes, more than any number below 276 has. What cannot be read is no number.
+// No heap: what it fills are arrays.
 fn main(rt: HostRuntime) {
     let mut text = [0u8; 16];
     let n = bytes_read(

@@ -5,7 +5,8 @@ ghost use Rattle.stdio.specs.Input.{bytes_read, HasRead};
 use std::io;
 use std::io::Read;
 
-// Reads until the list is full or the input ends: the list then begins with the bytes that came. Answers how many.
+// Reads until the list is full or the input ends: the list then begins with the bytes that came. Answers how many. No counted loop: a
+// read gives as many bytes as it will.
 pub fn read_input<R: Read>(from: &mut R, list: &mut [u8]) -> io::Result<usize>
     ensures count { bytes_read result 0 ≤ length list.old }
     ensures bytes { HasRead result (R.remaining from.old) (R.remaining from.new) list.new }

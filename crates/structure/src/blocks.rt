@@ -93,7 +93,7 @@ fn jump_line(blocks: &[u16], i: Place, to: Place, indent: u32, out: &mut [u64], 
     put_line(out, at, 6, i, last, indent)
 }
 
-// The line of a block's closing branch or jmp.
+// The line of a block's closing branch or jmp, by the number in its row.
 fn closing_line(
     blocks: &[u16],
     i: Place,

@@ -7,6 +7,7 @@ use stdio::output::print_answer;
 use store::put_by_columns;
 
 // Reads at most 65,537 bytes, one more than a record may have. No bytes are no record: where the input cannot be read, question 1 gets a no.
+// No heap: what it fills are arrays.
 fn main(rt: HostRuntime) {
     let mut rec = [0u8; 65537];
     let n = bytes_read(

@@ -15,6 +15,7 @@ use stdio::output::print_answer;
 
 // What the program prints of a record; answers how many bytes that is. 65,536 bytes of text, each of which may be a quote, 16,384 tokens and
 // 900 rows give a file of fewer than 262,144 bytes.
+// No heap: what it fills are arrays.
 fn answer(rec: &[u8], out: &mut [u8]) -> usize
     requires { 262144 ≤ length out.old }
     ensures { PrintsRows rec.now (take result out.new) }
@@ -58,6 +59,8 @@ fn answer(rec: &[u8], out: &mut [u8]) -> usize
 }
 
 // Reads at most 65,537 bytes, one more than a record may have. No bytes are no record: where the input cannot be read, question 1 gets a no.
+// `listing` reads and prints likewise: its `answer` is another, and a function is no parameter of a program's main.
+// No heap: what it fills are arrays.
 fn main(rt: HostRuntime) {
     let mut rec = [0u8; 65537];
     let n = bytes_read(

@@ -1,9 +1,11 @@
-// Conditions by number, from the table. A relation is 0 ==, 1 !=, 2 <, 3 >=, 4 <=, 5 >, and 6 for none.
+// Conditions by number, from the table. A relation is 0 ==, 1 !=, 2 <, 3 >=, 4 <=, 5 >, and 6 for none: no enum,
+// since these are bytes of the table.
 ghost use Rattle.std.specs.Prelude.{◌≡◌};
 ghost use Rattle.x86.specs.Conditions.{relation_after_cmp, relation_after_test, relation_after_other, prints_unsigned, negate as negated};
 
 use super::table::Isa;
 
+// One reader for each column: with the column as an argument the rules would lose their names.
 pub fn relation_after_cmp(isa: Isa<'_>, c: u8) -> u8
     ensures { result ≡ relation_after_cmp c }
 {

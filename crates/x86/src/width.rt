@@ -15,6 +15,7 @@ fn general_register(bits: u16, i: u8) -> u8
     0x40 + i
 }
 
+// Two registers by name over one rule.
 pub fn return_register(bits: u16) -> u8
     ensures { result ≡ return_register bits }
 {
