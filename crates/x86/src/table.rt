@@ -12,15 +12,22 @@ pub struct Isa<'a> {
     pub ghost whole: { bytes.now ≡ isa_bytes },
 }
 
+// The byte of number k in a column of n numbers, and `other` past them.
+pub fn column(isa: &[u8], at: u16, step: u8, n: u8, k: u8, other: u8) -> u8
+    ensures { result ≡ pick (ltb k n) (u8_at isa.now (at + step * k)) other }
+{
+    if k < n {
+        u8_at(isa, at as usize + step as usize * k as usize)
+    } else {
+        other
+    }
+}
+
 impl<'a> Isa<'a> {
-    // The byte of number k in a column of n numbers, and `other` past them.
+    // A column of the one table.
     pub fn column(self, at: u16, step: u8, n: u8, k: u8, other: u8) -> u8
         ensures { result ≡ pick (ltb k n) (u8_at isa_bytes (at + step * k)) other }
     {
-        if k < n {
-            u8_at(self.bytes, at as usize + step as usize * k as usize)
-        } else {
-            other
-        }
+        column(self.bytes, at, step, n, k, other)
     }
 }
