@@ -121,19 +121,17 @@ pub fn ask_blocks(bytes: &[u8], h: Header) -> Result<(), Question>
 pub fn ask_contents(bytes: &[u8], h: Header) -> Result<(), Question>
     ensures { Answers (contents_no h bytes.now) tt result }
 {
-    if !bodies_asked(bytes, h) {
-        return Err(Question::Bodies);
+    let bodies = bodies_asked(bytes, h);
+    let branches = branches_asked(bytes, h);
+    let atlas = atlas_asked(bytes, h);
+    let spans = spans_asked(bytes, h);
+    match (bodies, branches, atlas, spans) {
+        (false, _, _, _) => Err(Question::Bodies),
+        (_, false, _, _) => Err(Question::Branches),
+        (_, _, false, _) => Err(Question::Atlas),
+        (_, _, _, false) => Err(Question::Spans),
+        _ => Ok(()),
     }
-    if !branches_asked(bytes, h) {
-        return Err(Question::Branches);
-    }
-    if !atlas_asked(bytes, h) {
-        return Err(Question::Atlas);
-    }
-    if !spans_asked(bytes, h) {
-        return Err(Question::Spans);
-    }
-    Ok(())
 }
 
 // Question 11.
