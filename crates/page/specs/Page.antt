@@ -33,10 +33,13 @@ abbrev pub output_for : ℕ → List ℕ → List ℕ
 output_for zero text = text
 output_for (suc n) text = refusal (suc n)
 
--- the same of a call that stores bytes from the start of the list e on
+-- the same of a call that stores bytes from the start of the list e on, by the number that an error has
+abbrev pub output_by : {E : Type 0} → (E → ℕ) → Result ℕ E → List ℕ → List ℕ
+output_by value (Ok n) e = take n e
+output_by value (Err x) e = refusal (value x)
+
 abbrev pub stored_output : Result ℕ Question → List ℕ → List ℕ
-stored_output (Ok n) e = take n e
-stored_output (Err q) e = refusal (number q)
+stored_output r e = output_by number r e
 
 -- "address (sixteen upper hex digits, or dashes if none)": a line has one if its mark is 256 or more; 48 is '0', 45 is '-'
 unfoldable pub address_text : ℕ → ℕ → List ℕ

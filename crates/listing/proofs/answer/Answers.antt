@@ -6,6 +6,7 @@ use Prim.Native.Nat.{ℕ}
 use native.Mathlib.Omega.{arith}
 use lib.ListN.{length, length-replicate, length-take}
 use Rattle.lists.specs.Put.{put}
+use Rattle.lists.specs.Question.{number}
 use Rattle.record.specs.declared.header.Header.{Header}
 use Rattle.operand.proofs.Bounds.{AllBytes}
 use Rattle.rows.specs.Lists.{Lists}
@@ -46,7 +47,8 @@ returns-in-Err c =
     let out = c.args.out.now in
     let whole = c.from-to.ensures ∙ ap (λ (h : Header). h.blocks) c.read_header.ensures in
     let p = no_output s _ whole _ _ c.list-listed.ensures.called page_of _ c.in-Err.is in
-    let end = c.put_refusal.ensures.end.0 ∙ sym (ap length p) in
-    let text = c.put_refusal.ensures.text ∙ sym (ap (λ (t : List ℕ). put 0 t out) p) in
-    let short = c.put_refusal.ensures.end.1 in
+    let told = c.put_refusal.ensures.text number (λ _ _ is. is) in
+    let end = told.0 ∙ sym (ap length p) in
+    let text = told.1 ∙ sym (ap (λ (t : List ℕ). put 0 t out) p) in
+    let short = c.put_refusal.ensures.short in
     page_prints s _ (stands_whole _ out _ _ end text (omega (arith, short, c.requires)))
