@@ -1,13 +1,13 @@
 -- What the exported functions answer and leave is what their definitions say.
 -- The call's answer has the number, the sizes and the looks.
-use mathlib.Core.Path.{◌≡◌, ◌∙◌}
+use mathlib.Core.Path.{◌≡◌, refl, ◌∙◌}
 use mathlib.Core.List.{List}
 use Prim.Native.Nat.{ℕ}
 use lib.ListN.{set}
 use Rattle.std.specs.Prelude.{Ok, Err}
 use Rattle.std.specs.declared.result.Result.{Result}
 use Rattle.lists.specs.Put.{put}
-use Rattle.lists.specs.Question.{number_of, Answers}
+use Rattle.lists.specs.Question.{number, number_of, Answers}
 use Rattle.lists.specs.declared.question.Question.{Question}
 use Rattle.lists.proofs.Answered.{number_is}
 use Rattle.rows.specs.Lists.{Lists}
@@ -16,6 +16,12 @@ use Rattle.record.specs.Asked.{first_no}
 use Rattle.pseudo.specs.Called.{sizes, LooksCounted}
 use Rattle.pseudo.specs.Promise.{Promise}
 use Rattle.abi.specs.Exported.{size_list, answer_list, looked, Exported, Sized}
+use Rattle.abi.specs.Stores.{number_by}
+
+-- the number of an answer whose error is a question
+pub number_at : (r : Result ℕ Question) → number_by number r ≡ number_of r
+number_at (Ok n) = refl
+number_at (Err q) = refl
 
 -- the looks behind the sizes
 pub put_looks : (r : Result Sizes Question) (looks : ℕ) (e e₁ e₂ : List ℕ) → e₁ ≡ put 0 (size_list r) e → e₂ ≡ set e₁ 3 looks → e₂ ≡ put 0 (answer_list r looks) e

@@ -5,6 +5,7 @@ ghost use Rattle.lists.specs.Question.{number_of};
 ghost use Rattle.abi.specs.Exported.{values_in, size_list, answer_list};
 ghost use Rattle.abi.specs.Stores.{bytes_list};
 
+use crate::store::put_stored;
 use lists::question::Question;
 use lists::stores::{put_slice, store};
 use pseudo::answered::Answered;
@@ -32,10 +33,7 @@ pub fn put_bytes(size: &mut [u64], answer: Result<usize, Question>) -> u8
     ensures number { result ≡ number_of answer }
     ensures size { size.new ≡ put 0 (bytes_list answer) size.old }
 {
-    match answer {
-        Ok(n) => put_values(size, Ok([n as u64])),
-        Err(q) => put_values::<1>(size, Err(q)),
-    }
+    put_stored(size, answer)
 }
 
 // The sizes of an answer.
