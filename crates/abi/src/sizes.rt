@@ -48,7 +48,7 @@ pub fn put_answer(sizes: &mut [u64], answer: Result<Sizes, Question>) -> u8
 }
 
 // The sizes and behind them the looks; answers the number.
-pub fn put_answered(sizes: &mut [u64], r: Answered) -> u8
+pub fn put_answered(sizes: &mut [u64], r: Answered<Question>) -> u8
     ensures number { result ≡ number_of r.answer }
     ensures sizes { sizes.new ≡ put 0 (answer_list r.answer r.looks) sizes.old }
 {

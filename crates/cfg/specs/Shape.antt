@@ -16,7 +16,7 @@ abbrev pub found_place : Option ℕ → Option Place
 found_place (Some k) = Some (place k)
 found_place None = None
 
--- "Some place i the last j from i on, before the end, is sought whose block has a True edge to i's start .."
+-- "At place i the last j from i on, before the end, is sought whose block has a True edge to i's start .."
 unfoldable pub last_loop : List ℕ → List ℕ → ℕ → ℕ → Option Place
 last_loop blocks edges i to = found_place (last_from (closes_loop blocks edges i) i (to - i))
 

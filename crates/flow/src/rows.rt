@@ -36,26 +36,34 @@ fn rises_in(rec: &[u8], h: Header) -> bool
     starts_rise(from(rec, 24), h.blocks)
 }
 
+// The place of the first block that starts at an address; `rises` tells whether it can be found by halving.
+#[tactic(auto, unfolding(crate::specs::Rows::place_of))]
+pub fn place_of(rec: &[u8], h: Header, rises: bool, va: Address) -> Place
+    requires { rises ≡ starts_rise (starts_of h rec.now) h.blocks }
+    ensures { result.0 ≡ place_of h rec.now va.0 }
+{
+    let starts = from(rec, 24);
+    if rises {
+        return place_found(search(starts, h.blocks, va.0));
+    }
+    place_found(first_of(starts, h.blocks, va.0))
+}
+
 // A record with its header, and whether its block starts rise: asked once for all the places that are found in it.
 #[derive(Clone, Copy)]
 pub struct Places<'a> {
-    rec: &'a [u8],
-    h: Header,
-    rises: bool,
-    ghost told: { rises ≡ starts_rise (starts_of h rec.now) h.blocks },
+    pub rec: &'a [u8],
+    pub h: Header,
+    pub rises: bool,
+    pub ghost told: { rises ≡ starts_rise (starts_of h rec.now) h.blocks },
 }
 
 impl<'a> Places<'a> {
     // The place of the first block that starts at an address: by halving, where the starts rise.
-    #[tactic(auto, unfolding(crate::specs::Rows::place_of))]
     pub fn place_of(self, va: Address) -> Place
         ensures { result.0 ≡ place_of self.entry.h self.entry.rec.now va.0 }
     {
-        let starts = from(self.rec, 24);
-        if self.rises {
-            return place_found(search(starts, self.h.blocks, va.0));
-        }
-        place_found(first_of(starts, self.h.blocks, va.0))
+        place_of(self.rec, self.h, self.rises, va)
     }
 
     // The place of a closing branch's target.

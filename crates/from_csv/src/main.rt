@@ -137,7 +137,7 @@ fn main(rt: HostRuntime) {
         }
         if !print_answer(
             part(&out, 0, m),
-            b"from_csv",
+            b"from_csv: standard output cannot be written\n",
             &mut rt.stdout(),
             &mut rt.stderr(),
         ) {

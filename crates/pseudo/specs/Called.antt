@@ -23,9 +23,9 @@ pub record Accepted (s : List ℕ) (from to : ℕ) (h : Header) : Type 0 where
   pub yes : first_no s from to ≡ 0
 
 -- #111: with the looks that are made for a listing, those that an answer carries: "A refusal reports 0."
-abbrev pub looks_of : ℕ → Result Sizes Question → ℕ
+abbrev pub looks_of : {E : Type 0} → ℕ → Result Sizes E → ℕ
 looks_of n (Ok z) = n
-looks_of n (Err q) = 0
+looks_of n (Err e) = 0
 
 module _ (s : List ℕ) (from to : ℕ) where
   abbrev pub sizes : Sizes

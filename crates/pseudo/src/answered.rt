@@ -2,17 +2,16 @@
 ghost use Rattle.std.specs.Prelude.{◌≡◌};
 ghost use Rattle.pseudo.specs.Called.{looks_of};
 
-use lists::question::Question;
 use rows::answer::Sizes;
 
 #[derive(Clone, Copy)]
-pub struct Answered {
-    pub answer: Result<Sizes, Question>,
+pub struct Answered<E> {
+    pub answer: Result<Sizes, E>,
     pub looks: u64,
 }
 
-// An answer with the looks that were made for it: a refusal reports none.
-pub fn with_looks(answer: Result<Sizes, Question>, looks: u64) -> Answered
+// An answer with the looks that were made for it: a refusal, of whatever type, reports none.
+pub fn with_looks<E>(answer: Result<Sizes, E>, looks: u64) -> Answered<E>
     ensures answer { result.answer ≡ answer }
     ensures looks { result.looks ≡ looks_of looks answer }
 {
@@ -21,8 +20,8 @@ pub fn with_looks(answer: Result<Sizes, Question>, looks: u64) -> Answered
             answer: Ok(z),
             looks,
         },
-        Err(q) => Answered {
-            answer: Err(q),
+        Err(e) => Answered {
+            answer: Err(e),
             looks: 0,
         },
     }

@@ -133,7 +133,7 @@ fn list_planned(
     blocks: &[u16],
     from: u16,
     to: u16,
-) -> Answered
+) -> Answered<Question>
     requires rising { Rising h rec.now }
     requires blocks_value { blocks.now ≡ block_rows h rec.now }
     requires accepted { Accepted rec.now from to h }
@@ -168,7 +168,7 @@ fn list_range(
     h: Header,
     from: u16,
     to: u16,
-) -> Answered
+) -> Answered<Question>
     requires accepted { Accepted rec.now from to h }
     requires blocks_in_bounds { 8 * h.blocks ≤ length block.old }
     requires blocks_in_bounds_2 { h.instructions + 2 * h.blocks ≤ length made.old }
@@ -203,7 +203,7 @@ fn list_accepted(
     h: Header,
     from: u16,
     to: u16,
-) -> Answered
+) -> Answered<Question>
     requires { Accepted rec.now from to h }
     ensures lists { Called rec.now from to
         (lists_of text.old ends.old kinds.old addresses.old marks.old places.old lines.old)
@@ -237,7 +237,7 @@ pub fn list(
     marks: &mut [u16],
     places: &mut [u16],
     lines: &mut [u32],
-) -> Answered
+) -> Answered<Question>
     ensures { Promise rec.now from to
         (lists_of text.old ends.old kinds.old addresses.old marks.old places.old lines.old)
         (lists_of text.new ends.new kinds.new addresses.new marks.new places.new lines.new) result.answer result.looks }

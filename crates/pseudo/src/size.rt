@@ -19,6 +19,7 @@ use flow::planned::plan_record;
 use flow::rows::block_rows;
 use line::rows::{Rows, row_table};
 use lists::parts::part;
+use lists::question::Question;
 use lists::reads::element_or;
 use record::asked::record;
 use record::header::Header;
@@ -53,7 +54,7 @@ fn size_range(
     blocks: &[u16],
     from: u16,
     to: u16,
-) -> Answered
+) -> Answered<Question>
     requires rising { Rising h rec.now }
     requires blocks_value { blocks.now ≡ block_rows h rec.now }
     requires accepted { Accepted rec.now from to h }
@@ -68,7 +69,7 @@ fn size_range(
     with_looks(Ok(sizes), planned.looks)
 }
 
-fn size_accepted(rec: &[u8], h: Header, from: u16, to: u16) -> Answered
+fn size_accepted(rec: &[u8], h: Header, from: u16, to: u16) -> Answered<Question>
     requires { Accepted rec.now from to h }
     ensures sizes { result.answer ≡ Ok (sizes rec.now from to) }
     ensures looks { LooksCounted rec.now from to result.answer result.looks }
@@ -85,7 +86,7 @@ fn size_accepted(rec: &[u8], h: Header, from: u16, to: u16) -> Answered
 
 // The sizes and the looks of the listing of the blocks from `from` up to `to`, or the number of the first question before 12 that gets a no.
 // Nothing is demanded of the caller.
-pub fn size(rec: &[u8], from: usize, to: usize) -> Answered
+pub fn size(rec: &[u8], from: usize, to: usize) -> Answered<Question>
     ensures sizes { Answers (first_no rec.now from to) (sizes rec.now from to) result.answer }
     ensures looks { LooksCounted rec.now from to result.answer result.looks }
 {
