@@ -63,7 +63,8 @@ fn is_same(a: &[u8], b: &[u8]) -> bool
     a.len() == b.len() && a.iter().zip(b).all(|(x, y)| x == y)
 }
 
-// The first character of a text, if it begins with one.
+// The first character of a text, if it begins with one. Inlined: handed back through memory it costs a literal a third of its time.
+#[inline(always)]
 pub fn first(t: &[u8]) -> Option<Character>
     ensures { Spelt t.now result }
 {
