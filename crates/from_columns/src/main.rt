@@ -3,7 +3,7 @@
 
 use lists::parts::part;
 use stdio::input::{bytes_read, read_input};
-use stdio::output::print_answer;
+use stdio::output::print_or_refuse;
 use store::put_by_bodies;
 
 // Reads at most 65,537 bytes, one more than a record may have. No bytes are no record: where the input cannot be read, question 1 gets a no.
@@ -18,7 +18,7 @@ fn main(rt: HostRuntime) {
     );
     let mut out = [0u8; 65536];
     let m = put_by_bodies(part(&rec, 0, n), &mut out);
-    let _ = print_answer(
+    let _ = print_or_refuse(
         part(&out, 0, m),
         b"from_columns: standard output cannot be written\n",
         &mut rt.stdout(),

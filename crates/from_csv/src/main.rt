@@ -15,7 +15,7 @@ use page::number::put_refusal;
 use page::page::{put_count, put_lines};
 use rows::listing::Listing;
 use stdio::input::{bytes_read, read_input};
-use stdio::output::print_answer;
+use stdio::output::print_or_refuse;
 
 // How many of n lines a part has that begins with line `first`.
 #[tactic(auto, using(crate::proofs::Parts::part_min))]
@@ -135,7 +135,7 @@ fn main(rt: HostRuntime) {
         if m == 0 {
             return;
         }
-        if !print_answer(
+        if !print_or_refuse(
             part(&out, 0, m),
             b"from_csv: standard output cannot be written\n",
             &mut rt.stdout(),

@@ -15,7 +15,7 @@ use page::number::put_refusal;
 use rows::answer::Sizes;
 use rows::listing::Listing;
 use stdio::input::{bytes_read, read_input};
-use stdio::output::print_answer;
+use stdio::output::print_or_refuse;
 
 // How many bytes of a text stand before its first LF; all of them if it has none.
 fn line_size(s: &[u8]) -> usize
@@ -148,7 +148,7 @@ fn main(rt: HostRuntime) {
     );
     let mut out = [0u8; 972058];
     let m = answer(part(&input, 0, n), &mut out);
-    let _ = print_answer(
+    let _ = print_or_refuse(
         part(&out, 0, m),
         b"keyer: standard output cannot be written\n",
         &mut rt.stdout(),

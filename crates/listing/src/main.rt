@@ -12,7 +12,7 @@ use pseudo::call::list;
 use record::header::read_header;
 use rows::listing::Listing;
 use stdio::input::{bytes_read, read_input};
-use stdio::output::print_answer;
+use stdio::output::print_or_refuse;
 
 // What the program prints of a record; answers how many bytes that is. `lines=900` and LF are 10, each of 900 lines has 16 digits,
 // a space, at most 2 * 255 spaces and LF beside its text, and the text at most 65,536: 540,746 bytes in all.
@@ -71,7 +71,7 @@ fn main(rt: HostRuntime) {
     );
     let mut out = [0u8; 540746];
     let m = answer(part(&rec, 0, n), &mut out);
-    let _ = print_answer(
+    let _ = print_or_refuse(
         part(&out, 0, m),
         b"listing: standard output cannot be written\n",
         &mut rt.stdout(),

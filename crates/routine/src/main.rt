@@ -10,7 +10,7 @@ use lists::stores::store;
 use page::number::put_stored;
 use routines::routine::routine;
 use stdio::input::{bytes_read, read_input};
-use stdio::output::print_answer;
+use stdio::output::print_or_refuse;
 use text::decimal::put_decimal;
 
 // Whether a text says number k.
@@ -54,7 +54,7 @@ fn main(rt: HostRuntime) {
     );
     let mut out = [0u8; 405];
     let m = answer(part(&text, 0, n), &mut out);
-    let _ = print_answer(
+    let _ = print_or_refuse(
         part(&out, 0, m),
         b"routine: standard output cannot be written\n",
         &mut rt.stdout(),

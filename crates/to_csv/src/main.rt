@@ -11,7 +11,7 @@ use pseudo::call::list;
 use record::header::read_header;
 use rows::listing::Listing;
 use stdio::input::{bytes_read, read_input};
-use stdio::output::print_answer;
+use stdio::output::print_or_refuse;
 
 // What the program prints of a record; answers how many bytes that is. 65,536 bytes of text, each of which may be a quote, 16,384 tokens and
 // 900 rows give a file of fewer than 262,144 bytes.
@@ -71,7 +71,7 @@ fn main(rt: HostRuntime) {
     );
     let mut out = [0u8; 262144];
     let m = answer(part(&rec, 0, n), &mut out);
-    let _ = print_answer(
+    let _ = print_or_refuse(
         part(&out, 0, m),
         b"to_csv: standard output cannot be written\n",
         &mut rt.stdout(),
